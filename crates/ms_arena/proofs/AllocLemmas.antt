@@ -10,6 +10,7 @@ use Rattle.ms_base.specs.declared.refusal.Refusal.{Refusal}
 use Rattle.ms_base.specs.Level.{level_that_holds}
 use Rattle.ms_base.specs.State.{ArenaState}
 use Rattle.ms_base.specs.Asks.{wanted_level}
+use Rattle.ms_pool.specs.Account.{AreChunks}
 use Rattle.ms_arena.specs.Arena.{block_at, with_books, with_zeros}
 use Rattle.ms_arena.specs.Alloc.{GrowRelation, TakeRelation, TakesNew}
 use Rattle.ms_arena.specs.Books.{AwaitsBlock, BooksView, HasGrown, HasTaken, Leaves, account_in, arena_over, answer_at}
@@ -45,9 +46,10 @@ takes_from took policy old kind live wanted most n before (Err refusal) new afte
 pub grown_leaves : {S : Type 0} (grew : GrowRelation S) (policy : Policy) (old : BooksView) (chunk : Chunk) (total : ℕ)
     (may : Bool) (before : S) (new : BooksView) (after : S) (n start : ℕ)
     → HasGrown grew policy old chunk total may before new after → AwaitsBlock old.state new.state start n
-    → Leaves old n (Ok start) new
-grown_leaves grew policy old chunk total may before new after n start grown awaits = record {
+    → AreChunks new.space new.state.chunks → Leaves old n (Ok start) new
+grown_leaves grew policy old chunk total may before new after n start grown awaits chunks = record {
   awaits = awaits;
+  chunks = chunks;
   room = omega (arith, ap (λ (books : BooksView). books.room) grown.state);
   owner = ap (λ (books : BooksView). books.owner) grown.state;
   space = ap (λ (books : BooksView). books.space) grown.state;

@@ -1,39 +1,35 @@
 -- What an arena's live blocks are where one is placed, written or freed, from what the arena below
 -- says of it. The functions of `arena` use these.
-use Rattle.std.proofs.Common.{◌≡◌, ◌≢◌, ◌≤◌, ◌<◌, ◌+◌, ℕ, Bool, true, false, cond, Option, Some, None, List, [], ◌∷◌}
-use Rattle.std.proofs.Common.{◌++◌, length, map, replicate, refl, sym, ap, ◌∙◌, subst, inl, inr, arith, option_map}
-use Rattle.std.specs.Prelude.{◌^◌, nat_le, slice_set, IfErr, IsErrAnd, Result}
-use Rattle.std.specs.List.{AllByRecursion, list_all}
+use Rattle.std.proofs.Common.{◌≡◌, ◌≢◌, ◌<◌, ◌+◌, ℕ, true, false, cond, Option, Some, None, List, [], ◌∷◌}
+use Rattle.std.proofs.Common.{length, map, refl, sym, ap, ◌∙◌, subst, inl, inr, arith, option_map}
+use Rattle.std.specs.Prelude.{◌^◌, slice_set, IfErr, IsErrAnd, Result}
+use Rattle.std.specs.List.{AllByRecursion}
 use Rattle.std.specs.Map.{keys_of}
 use Rattle.std.specs.Ordering.{nat_cmp, is_eq, match_ordering}
 use Rattle.std.specs.declared.cmp.Ordering.TheVariants.{Less, Equal, Greater}
 use Rattle.std.specs.BTreeMap.{is_at}
-use Rattle.std.proofs.lemmas.Bool.{cases_eq, and_parts, leb-true}
-use Rattle.std.proofs.lemmas.Bool.Decides.{nat_tests}
+use Rattle.std.proofs.lemmas.Bool.{cases_eq}
 use Rattle.std.proofs.lemmas.List.Elements.{recursion_from_All}
-use Rattle.std.proofs.lemmas.List.Folds.{list_all-append}
-use Rattle.std.proofs.lemmas.List.Sums.{AllPass-from_list_all}
 use Rattle.std.proofs.lemmas.Result.{err_from_is_err_and}
 use Rattle.ms_base.specs.declared.span.Block.{Block}
-use Rattle.ms_base.specs.Hashed.{by_name}
-use Rattle.ms_base.specs.Interval.{meet}
 use Rattle.ms_base.specs.Names.{AreNamed, named, with_new, with_changed, without}
-use Rattle.ms_base.proofs.entries.EntryLemmas.{Split, split_at, Gap, gap_at, same_name, rises_with_changed}
-use Rattle.ms_base.proofs.entries.HashedLemmas.{Sets, without_by_name}
+use Rattle.ms_base.proofs.entries.EntryLemmas.{Split, split_at, same_name, rises_with_changed}
 use Rattle.ms_base.proofs.entries.LookupLemmas.{named_changed_same, named_changed_other, named_without_other}
 use Rattle.ms_base.proofs.events.SeenEntryLemmas.{same_entries}
 use Rattle.ms_base.specs.declared.refusal.Refusal.{Refusal}
-use Rattle.ms_arena.specs.Arena.{ArenaView, IsLive, IsNotLive, LacksWord, WordRefused, WritesWord, FreesBlock, live_run}
-use Rattle.ms_arena.specs.Raw.{RawView, Gains, FreesRun, Holds, RunIsThere, contents_at, live_in, with_live}
+use Rattle.ms_arena.specs.Arena.{ArenaView, IsLive, IsNotLive, LacksWord, WordRefused, WritesWord, live_run}
+use Rattle.ms_arena.specs.Raw.{RawView, Holds, RunIsThere, contents_at, live_in, with_live}
 use Rattle.ms_arena.specs.Words.{IsThere, WordsView, StayWords, Writes, value_at}
-use Rattle.ms_arena.proofs.HoldLemmas.{contents_long, contents_stay, IsClear, clear_of_each, clear_of_new}
-use Rattle.ms_arena.proofs.HoldLemmas.{all_then, clear_words, contents_set, contents_zero, holds_fewer, holds_more}
+use Rattle.ms_arena.proofs.HoldLemmas.{IsClear, clear_of_each}
+use Rattle.ms_arena.proofs.ContentsLemmas.{contents_long, contents_stay}
+use Rattle.ms_arena.proofs.HoldLemmas.{clear_words}
+use Rattle.ms_arena.proofs.ContentsLemmas.{contents_set}
 
 -- What the live blocks show of the words of a start.
-abbrev shown : WordsView → ℕ → Option ℕ → Option (List ℕ)
+abbrev pub shown : WordsView → ℕ → Option ℕ → Option (List ℕ)
 shown words start found = option_map (λ (n : ℕ). contents_at words (start, n)) found
 
-named_live : (words : WordsView) (runs : List (ℕ × ℕ)) (start : ℕ)
+pub named_live : (words : WordsView) (runs : List (ℕ × ℕ)) (start : ℕ)
     → named (live_in words runs) start ≡ shown words start (named runs start)
 named_live words [] start = refl
 named_live words (run ∷ runs) start =
@@ -102,7 +98,7 @@ lacks_word raw runs block index refusal lacks =
     ]
 
 -- What holds of all holds of the one that has a name.
-all_named : (P : ℕ × ℕ → Type 0) (runs : List (ℕ × ℕ)) (name n : ℕ) → AllByRecursion P runs
+pub all_named : (P : ℕ × ℕ → Type 0) (runs : List (ℕ × ℕ)) (name n : ℕ) → AllByRecursion P runs
     → named runs name ≡ Some n → P (name, n)
 all_named P [] name n all found = absurd (cc)
 all_named P (run ∷ runs) name n all found =
@@ -114,10 +110,10 @@ all_named P (run ∷ runs) name n all found =
     ] refl found
 
 -- The words of a run, and of all runs, stay.
-abbrev Shows : WordsView → WordsView → ℕ × ℕ → Type 0
+abbrev pub Shows : WordsView → WordsView → ℕ × ℕ → Type 0
 Shows old new run = contents_at new run ≡ contents_at old run
 
-live_stays : (old new : WordsView) (runs : List (ℕ × ℕ)) → AllByRecursion (Shows old new) runs
+pub live_stays : (old new : WordsView) (runs : List (ℕ × ℕ)) → AllByRecursion (Shows old new) runs
     → live_in new runs ≡ live_in old runs
 live_stays old new [] all = refl
 live_stays old new (run ∷ runs) all =
@@ -134,7 +130,7 @@ live_same old new runs made stay is = ap (live_in new) is ∙ live_stays old new
         (contents_stay (value_at old) (value_at new) run (λ word low high. stay.values word), each runs)
 
 -- One more, and one less.
-new_live : (words : WordsView) (runs : List (ℕ × ℕ)) (start n : ℕ)
+pub new_live : (words : WordsView) (runs : List (ℕ × ℕ)) (start n : ℕ)
     → live_in words (with_new runs start n) ≡ with_new (live_in words runs) start (contents_at words (start, n))
 new_live words [] start n = refl
 new_live words (run ∷ runs) start n =
@@ -149,7 +145,7 @@ new_live words (run ∷ runs) start n =
       | Greater ↦ λ p. ap (λ (l : List (ℕ × List ℕ)). (run.0, contents_at words run) ∷ l) (new_live words runs start n)
     ] refl
 
-without_live : (words : WordsView) (runs : List (ℕ × ℕ)) (start : ℕ)
+pub without_live : (words : WordsView) (runs : List (ℕ × ℕ)) (start : ℕ)
     → live_in words (without runs start) ≡ without (live_in words runs) start
 without_live words [] start = refl
 without_live words (run ∷ runs) start =
@@ -158,105 +154,6 @@ without_live words (run ∷ runs) start =
       | true ↦ refl
       | false ↦ ap (λ (l : List (ℕ × List ℕ)). (run.0, contents_at words run) ∷ l) (without_live words runs start)
     ]
-
--- No live block starts where one that is placed does.
-abbrev is_two : ℕ × ℕ → Bool
-is_two run = nat_le 2 run.1
-
-meets_itself : (a m n : ℕ) → 2 ≤ m → 2 ≤ n → meet a m a n ≡ true
-meets_itself a m n h k = grind (arith, nat_tests)
-
-is_long : (runs kept : List (ℕ × ℕ)) (start n : ℕ) → list_all is_two (runs ++ kept) ≡ true → named runs start ≡ Some n
-    → 2 ≤ n
-is_long runs kept start n all found =
-    leb-true 2 n (all_named (λ (run : ℕ × ℕ). is_two run ≡ true) runs start n
-    (recursion_from_All (λ (run : ℕ × ℕ). is_two run ≡ true) runs
-    (AllPass-from_list_all is_two runs
-    (and_parts (list_all is_two runs) (list_all is_two kept) (sym (list_all-append is_two runs kept) ∙ all)).0)) found)
-
-none_starts_there : (old new : RawView) (block : Block) (runs : List (ℕ × ℕ)) → Holds old runs → Gains old block new
-    → named runs block.start ≡ None
-none_starts_there old new block runs holds gains = none (named runs block.start) refl
-  where
-    none : (found : Option ℕ) → named runs block.start ≡ found → named runs block.start ≡ None
-    none None is = is
-    none (Some n) is =
-        let clear = all_named (IsClear (block.start, block.words)) runs block.start n
-        (clear_of_new old new block runs holds gains) is in
-        let meets = meets_itself block.start block.words n (gains.awaits runs holds.sound).long
-        (is_long runs old.books.kept block.start n holds.sound.long is) in
-        absurd (cc (clear, meets))
-
--- A block that is placed: the list has it then, and what is shown.
-pub record Enters (old new : RawView) (block : Block) (runs more : List (ℕ × ℕ)) : Type 0 where
-  pub holds : Holds new more
-  pub fresh : named (live_in old.words runs) block.start ≡ None
-  pub live : live_in new.words more ≡ with_new (live_in old.words runs) block.start (replicate block.words 0)
-
-pub enters : (old new : RawView) (block : Block) (runs made more : List (ℕ × ℕ)) → Holds old runs → Gains old block new
-    → made ≡ runs → more ≡ with_new made block.start block.words → Enters old new block runs more
-enters old new block runs made more holds gains same more_are = record {
-  holds = holds_more old new block runs more gap.before gap.after holds gains gap.is (is ∙ gap.made block.words);
-  fresh = named_live old.words runs block.start ∙ ap (shown old.words block.start) none;
-  live = ap (live_in new.words) is ∙ new_live new.words runs block.start block.words
-      ∙ ap (λ (l : List (ℕ × List ℕ)). with_new l block.start (contents_at new.words run))
-      (live_stays old.words new.words runs
-      (all_then (IsClear run) (Shows old.words new.words) runs each (clear_of_new old new block runs holds gains)))
-      ∙ ap (λ (contents : List ℕ). with_new (live_in old.words runs) block.start contents)
-      (contents_zero (value_at new.words) run gains.opens.zero);
-}
-  where
-    run : ℕ × ℕ
-    run = (block.start, block.words)
-
-    is : more ≡ with_new runs block.start block.words
-    is = more_are ∙ ap (λ (l : List (ℕ × ℕ)). with_new l block.start block.words) same
-
-    none : named runs block.start ≡ None
-    none = none_starts_there old new block runs holds gains
-
-    gap : Gap runs block.start
-    gap = gap_at runs block.start none
-
-    each : (other : ℕ × ℕ) → IsClear run other → Shows old.words new.words other
-    each other clear =
-        contents_stay (value_at old.words) (value_at new.words) other
-        (λ word low high. elim (clear_words run other word clear low high
-        (omega (arith, (gains.awaits runs holds.sound).long))) [
-          | inl before ↦ gains.opens.before word before
-          | inr after ↦ gains.opens.after word after
-        ])
-
--- A live block that goes.
-pub record Goes (old new : RawView) (block : Block) (runs fewer : List (ℕ × ℕ)) : Type 0 where
-  pub holds : Holds new fewer
-  pub frees : FreesBlock (with_live old (live_in old.words runs)) block (with_live new (live_in new.words fewer))
-
-pub goes : (old new : RawView) (block : Block) (was is : List (ℕ × ℕ)) → Holds old (by_name was)
-    → FreesRun old block new → named (by_name was) block.start ≡ Some block.words → Sets was is block.start None
-    → Goes old new block (by_name was) (by_name is)
-goes old new block was is holds frees found sets = record {
-  holds = holds_fewer old new block runs (by_name is) split.before split.after holds frees split.is
-      (fewer ∙ split.gone);
-  frees = record {
-    contents = contents_at old.words (block.start, block.words);
-    live = is_live old runs block found;
-    after = ap (λ (live : List (ℕ × List ℕ)). with_live new live)
-        (ap (live_in new.words) fewer
-        ∙ ap (λ (raw : RawView). live_in raw.words (without runs block.start)) frees
-        ∙ without_live old.words runs block.start)
-        ∙ ap (λ (raw : RawView). with_live raw (without (live_in old.words runs) block.start)) frees;
-  };
-}
-  where
-    runs : List (ℕ × ℕ)
-    runs = by_name was
-
-    fewer : by_name is ≡ without runs block.start
-    fewer = without_by_name was is block.start sets
-
-    split : Split runs block.start block.words
-    split = split_at runs block.start block.words found
 
 -- The refusal is handed on.
 pub refused_so : {T : Type 0} (raw : RawView) (runs : List (ℕ × ℕ)) (block : Block) (index : ℕ) (now : ArenaView)

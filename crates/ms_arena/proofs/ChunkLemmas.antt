@@ -10,7 +10,6 @@ use Rattle.std.proofs.lemmas.List.Elements.{recursion_from_All}
 use Rattle.std.proofs.lemmas.List.Sums.{sum_by-cons, sum_by_more}
 use Rattle.std.proofs.lemmas.Option.{get_or_from_slice_get}
 use Rattle.std.proofs.lemmas.Nat.{pow-add, pow_pos}
-use Rattle.std.proofs.Math.Nat.{pow-le-pow_right}
 use Rattle.ms_base.specs.declared.kind.Space.{Space}
 use Rattle.ms_base.specs.declared.kind.Space.TheVariants.{NonClass, Class}
 use Rattle.ms_base.specs.declared.policy.Policy.{Policy}
@@ -22,6 +21,7 @@ use Rattle.ms_base.specs.Spaces.{IsSlotOf}
 use Rattle.ms_base.specs.Held.{words_of}
 use Rattle.ms_base.specs.State.{ArenaState}
 use Rattle.ms_base.specs.Good.{IsSound, is_in_use}
+use Rattle.ms_base.proofs.free.HalvesLemmas.{size_falls}
 use Rattle.ms_base.proofs.granules.FrontLemmas.{front_reaches}
 use Rattle.ms_pool.specs.Account.{AreChunks, has_chunk_at}
 use Rattle.ms_pool.specs.Lending.{MayBeParent, chunk_at, span_of, parent_of, reaching}
@@ -55,7 +55,7 @@ slot_below NonClass slot h = omega arith
 slot_below Class slot h = omega (arith, h.1)
 
 pub size_small : (level : ℕ) → size_of level ≤ 2 ^ 19
-size_small level = pow-le-pow_right {n = 2} (omega arith) {i = 19 - level} {j = 19} (omega arith)
+size_small level = size_falls 0 level (omega arith)
 
 below : (start size : ℕ) → start / 1048576 < 80 → size ≤ 2 ^ 19 → start + size < 2 ^ 27
 below start size h k = omega arith

@@ -1,18 +1,13 @@
 -- What live blocks an arena holds, whoever keeps the list of them: where one is placed, written or
 -- freed. The functions of `arena`, and loaders, use these.
-use Rattle.std.proofs.Common.{◌≡◌, ◌≢◌, ◌≤◌, ◌<◌, ◌+◌, ◌⊎◌, ℕ, true, false, Some, List, [], ◌∷◌, ◌++◌, length, map, replicate}
-use Rattle.std.proofs.Common.{set, get_or, sym, ap, ◌∙◌, subst, inl, inr, arith, length-append}
-use Rattle.std.proofs.Common.{get_or-set_same, get_or-set_other}
-use Rattle.std.specs.Prelude.{slice_get, slice_set}
-use Rattle.std.specs.List.{All, AllByRecursion, range_with_len, sum_by}
-use Rattle.std.proofs.lemmas.Bool.{cases_eq, cases_lt, or_parts}
+use Rattle.std.proofs.Common.{◌≡◌, ◌≤◌, ◌<◌, ◌+◌, ◌⊎◌, ℕ, true, false, List, [], ◌∷◌, ◌++◌, length}
+use Rattle.std.proofs.Common.{sym, ap, ◌∙◌, subst, inl, inr, arith, length-append}
+use Rattle.std.specs.List.{All, AllByRecursion, sum_by}
+use Rattle.std.proofs.lemmas.Bool.{cases_lt, or_parts}
 use Rattle.std.proofs.lemmas.Bool.Decides.{nat_tests}
-use Rattle.std.proofs.lemmas.List.{length-set, length-replicate, get_or-replicate}
 use Rattle.std.proofs.lemmas.List.Elements.{recursion_from_All, All-from_recursion}
 use Rattle.std.proofs.lemmas.List.Folds.{list_any-append}
-use Rattle.std.proofs.lemmas.List.FromFn.{length-map-range_with_len, get_or-map-range_with_len, fill_by_all}
 use Rattle.std.proofs.lemmas.List.Sums.{sum_by-cons, sum_by-append}
-use Rattle.std.proofs.lemmas.Option.{slice_get-get_or}
 use Rattle.ms_base.specs.declared.span.Block.{Block}
 use Rattle.ms_base.specs.Interval.{meet, meets_any}
 use Rattle.ms_base.specs.State.{ArenaState}
@@ -86,14 +81,14 @@ holds_more old new block runs more b a holds gains runs_are more_are = subst (Ho
       (there_still old.words new.words (b ++ a) gains.opens.there
       (recursion_from_All (RunIsThere old.words) (b ++ a)
       (subst (All (RunIsThere old.words)) runs_are holds.there)))
-      (record { each = gains.opens.here; ends = omega (arith, gains.ends) }));
+      (record { each = gains.opens.here; ends = omega (arith, gains.awaits.ends) }));
 })
   where
     run : ℕ × ℕ
     run = (block.start, block.words)
 
     awaits : Awaits new.books (b ++ a) run
-    awaits = gains.awaits (b ++ a) (subst (IsSound old.books) runs_are holds.sound)
+    awaits = gains.awaits.each (b ++ a) (subst (IsSound old.books) runs_are holds.sound)
 
 -- A block may be freed, and is held no more.
 pub record MayFree (raw : RawView) (block : Block) : Type 0 where
@@ -211,54 +206,6 @@ held_within raw runs chunks holds = record {
       used_small raw.space raw.books runs chunks holds.sound,
     )
 
--- The words of a run, by what is said of each word: they stay, are all 0, or are the same but for
--- one.
-abbrev pub contents_by : (ℕ → ℕ) → ℕ × ℕ → List ℕ
-contents_by value run = map (λ (index : ℕ). value (run.0 + index)) (range_with_len 0 run.1)
-
-pub contents_long : (value : ℕ → ℕ) (run : ℕ × ℕ) → length (contents_by value run) ≡ run.1
-contents_long value run = length-map-range_with_len (λ (index : ℕ). value (run.0 + index)) 0 run.1
-
-pub contents_stay : (old new : ℕ → ℕ) (run : ℕ × ℕ)
-    → ((word : ℕ) → run.0 ≤ word → word < run.0 + run.1 → new word ≡ old word)
-    → contents_by new run ≡ contents_by old run
-contents_stay old new run same =
-    sym (fill_by_all (λ index. new (run.0 + index)) (contents_by old run) run.1 0 (contents_long old run)
-    (λ k less. get_or-map-range_with_len (λ (index : ℕ). old (run.0 + index)) 0 run.1 k k 0 less (omega arith)
-    ∙ sym (same (run.0 + k) (omega arith) (omega (arith, less)))))
-
-pub contents_zero : (value : ℕ → ℕ) (run : ℕ × ℕ)
-    → ((word : ℕ) → run.0 ≤ word → word < run.0 + run.1 → value word ≡ 0)
-    → contents_by value run ≡ replicate run.1 0
-contents_zero value run zero =
-    sym (fill_by_all (λ index. value (run.0 + index)) (replicate run.1 0) run.1 0 (length-replicate run.1 0)
-    (λ k less. get_or-replicate run.1 k 0 0 less ∙ sym (zero (run.0 + k) (omega arith) (omega (arith, less)))))
-
-pub contents_set : (old new : ℕ → ℕ) (run : ℕ × ℕ) (index value : ℕ) → index < run.1
-    → new (run.0 + index) ≡ value → ((other : ℕ) → other ≢ run.0 + index → new other ≡ old other)
-    → contents_by new run ≡ slice_set (contents_by old run) index value
-contents_set old new run index value within written others =
-    sym (fill_by_all (λ index. new (run.0 + index)) (set was index value) run.1 0
-    (length-set was index value ∙ contents_long old run)
-    (λ k less. elim (cases_eq k index) [
-      | inl same ↦ ap (λ (k : ℕ). get_or (set was index value) k 0) same
-          ∙ get_or-set_same was index value 0 (omega (arith, contents_long old run, within)) ∙ sym written
-          ∙ ap (λ (k : ℕ). new (run.0 + k)) (sym same)
-      | inr differ ↦ get_or-set_other was index k value 0 differ
-          ∙ get_or-map-range_with_len (λ (index : ℕ). old (run.0 + index)) 0 run.1 k k 0 less (omega arith)
-          ∙ sym (others (run.0 + k) (λ same. differ (omega (arith, same))))
-    ]))
-  where
-    was : List ℕ
-    was = contents_by old run
-
-pub word_in_contents : (value : ℕ → ℕ) (run : ℕ × ℕ) (index : ℕ) → index < run.1
-    → slice_get (contents_by value run) index ≡ Some (value (run.0 + index))
-word_in_contents value run index within =
-    slice_get-get_or (contents_by value run) index 0 (omega (arith, within, contents_long value run))
-    ∙ ap (λ (word : ℕ). Some word)
-    (get_or-map-range_with_len (λ (index : ℕ). value (run.0 + index)) 0 run.1 index index 0 within (omega arith))
-
 -- Another run lies clear of a run: none of its words is one of the run's.
 abbrev pub IsClear : ℕ × ℕ → ℕ × ℕ → Type 0
 IsClear run other = meet run.0 run.1 other.0 other.1 ≡ false
@@ -299,7 +246,7 @@ of_live run live kept clear =
 pub clear_of_new : (old new : RawView) (block : Block) (runs : List (ℕ × ℕ)) → Holds old runs → Gains old block new
     → AllByRecursion (IsClear (block.start, block.words)) runs
 clear_of_new old new block runs holds gains =
-    of_live (block.start, block.words) runs new.books.kept (gains.awaits runs holds.sound).clear
+    of_live (block.start, block.words) runs new.books.kept (gains.awaits.each runs holds.sound).clear
 
 pub clear_of_each : (raw : RawView) (block : Block) (runs b a : List (ℕ × ℕ)) → Holds raw runs
     → runs ≡ b ++ (block.start, block.words) ∷ a → AllByRecursion (IsClear (block.start, block.words)) (b ++ a)

@@ -1,22 +1,12 @@
 -- What a raw arena gains by a block that was placed. The functions of `raw` use these.
-use Rattle.std.proofs.Common.{◌≡◌, ◌<◌, ◌≤◌, ◌+◌, ◌%◌, ◌^◌, ℕ, [], refl, sym, ap, ◌∙◌, subst}
+use Rattle.std.proofs.Common.{◌≡◌, ◌≤◌, ◌+◌, ◌%◌, ◌^◌, ℕ, refl, sym, ap, ◌∙◌, subst}
 use Rattle.ms_base.specs.declared.kind.Kind.{Kind}
-use Rattle.ms_base.specs.declared.kind.Space.{Space}
 use Rattle.ms_base.specs.declared.span.Block.{Block}
 use Rattle.ms_base.specs.State.{ArenaState}
-use Rattle.ms_base.specs.Good.{IsSound}
-use Rattle.ms_pool.specs.Account.{AreChunks}
 use Rattle.ms_arena.specs.Arena.{block_at}
-use Rattle.ms_arena.specs.Books.{BooksView, Awaits, AwaitsBlock, IsSameBooks}
+use Rattle.ms_arena.specs.Books.{BooksView, AwaitsBlock, IsSameBooks}
 use Rattle.ms_arena.specs.Raw.{Gains, raw_over}
 use Rattle.ms_arena.specs.Words.{WordsView, StayWords, Opens}
-use Rattle.ms_arena.proofs.ChunkLemmas.{in_use_below}
-
--- The words of a block that was placed end below 2^27.
-pub ends_below : (space : Space) (old new : ArenaState) (start n : ℕ) → AreChunks space new.chunks → IsSound old []
-    → AwaitsBlock old new start n → start + n < 2 ^ 27
-ends_below space old new start n chunks sound awaits = let here : Awaits new [] (start, n) = awaits [] sound in
-    in_use_below space new [] (start, n) chunks here.sound here.used
 
 -- Words that were opened once room was made.
 opened : (old made new : WordsView) (start end : ℕ) → StayWords old made → Opens made start end new
@@ -33,10 +23,10 @@ opened old made new start end stay opens = record {
 pub gained : (old made new : BooksView) (kind : Kind) (count total more sum : ℕ) (words room opened_words : WordsView)
     (block : Block) (start n : ℕ)
     → 2 ≤ n → IsSameBooks old made → StayWords words room → AwaitsBlock made.state new.state start n
-    → Opens room start (start + n) opened_words → start + n < 2 ^ 27 → more ≡ count + 1
+    → Opens room start (start + n) opened_words → more ≡ count + 1
     → sum ≡ (total + n) % 2 ^ 64 → block ≡ block_at start n → new.owner ≡ made.owner → new.space ≡ made.space
     → Gains (raw_over old kind count total words) block (raw_over new kind more sum opened_words)
-gained old made new kind count total more sum words room opened_words block start n long same stay awaits opens ends
+gained old made new kind count total more sum words room opened_words block start n long same stay awaits opens
     counted summed is owner space =
     subst (λ (b : Block). Gains (raw_over old kind count total words) b (raw_over new kind more sum opened_words)) (sym is)
     (record {
@@ -44,7 +34,6 @@ gained old made new kind count total more sum words room opened_words block star
       awaits = subst (λ (state : ArenaState). AwaitsBlock state new.state start n)
           (ap (λ (books : BooksView). books.state) same.rest) awaits;
       opens = opened words room opened_words start (start + n) stay opens;
-      ends = ends;
       count = counted;
       total = summed;
       owner = owner ∙ ap (λ (books : BooksView). books.owner) same.rest;

@@ -1,7 +1,7 @@
 -- The books of an arena as the code keeps them: its account, a top for each chunk, and its free
 -- blocks, beside the room for more.
 use Rattle.std.specs.Prelude.{◌≡◌, ℕ, ◌+◌, ◌-◌, ◌^◌, ◌≤◌, ◌<◌, Bool, sum, List, [], ◌++◌, length, slice_index, Vec}
-use Rattle.std.specs.Prelude.{vec_len, vec_capacity, Option, Some, None, Result, Ok, Err, IfOk, OnErr, IsTrue, IsFalse}
+use Rattle.std.specs.Prelude.{vec_len, vec_capacity, Option, Some, None, Result, Ok, Err, IfOk, OnOk, OnErr, IsTrue, IsFalse}
 use Rattle.ms_base.specs.declared.policy.Policy.{Policy}
 use Rattle.ms_base.specs.declared.kind.Kind.{Kind}
 use Rattle.ms_base.specs.declared.kind.Space.{Space}
@@ -63,9 +63,10 @@ pub record Awaits (state : ArenaState) (live : List (ℕ × ℕ)) (run : ℕ × 
   pub used : IsTrue (is_in_use state run)
   pub long : 2 ≤ run.1
 
--- So it is whatever the live blocks are.
-abbrev pub AwaitsBlock : ArenaState → ArenaState → ℕ → ℕ → Type 0
-AwaitsBlock old new start n = (live : List (ℕ × ℕ)) → IsSound old live → Awaits new live (start, n)
+-- So it is whatever the live blocks are, and it ends below 2 ^ 27.
+pub record AwaitsBlock (old new : ArenaState) (start n : ℕ) : Type 0 where
+  pub each : (live : List (ℕ × ℕ)) → IsSound old live → Awaits new live (start, n)
+  pub ends : start + n < 2 ^ 27
 
 -- A block of n words may be placed, in room that there is: one that a chunk of the level holds.
 pub record MayPlace (books : BooksView) (level n : ℕ) : Type 0 where
@@ -74,10 +75,11 @@ pub record MayPlace (books : BooksView) (level n : ℕ) : Type 0 where
   pub room : 0 < books.room
   pub places : 0 < books.places
 
--- What that leaves: the block's words await it, and at most one more free block is kept; a refusal
--- changes nothing.
+-- What that leaves: the block's words await it, the chunks are an account's, and at most one more
+-- free block is kept; a refusal changes nothing.
 pub record Leaves (old : BooksView) (n : ℕ) (result : Result ℕ Refusal) (new : BooksView) : Type 0 where
   pub awaits : IfOk result (λ start. AwaitsBlock old.state new.state start n)
+  pub chunks : OnOk result (AreChunks new.space new.state.chunks)
   pub room : old.room ≤ new.room + 1
   pub owner : new.owner ≡ old.owner
   pub space : new.space ≡ old.space

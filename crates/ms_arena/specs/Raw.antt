@@ -82,7 +82,6 @@ pub record Gains (old : RawView) (block : Block) (new : RawView) : Type 0 where
   pub long : 2 ≤ block.words
   pub awaits : AwaitsBlock old.books new.books block.start block.words
   pub opens : Opens old.words block.start (block.start + block.words) new.words
-  pub ends : block.start + block.words < 2 ^ 27
   pub count : new.count ≡ old.count + 1
   pub total : new.total ≡ (old.total + block.words) % 2 ^ 64
   pub owner : new.owner ≡ old.owner

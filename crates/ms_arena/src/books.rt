@@ -7,7 +7,7 @@
 //! top lies past its front, and the words in use are the sum of the tops.
 //! Only `make_room` takes memory, for free blocks and for the next chunk's top; `grow` and `take`
 //! wait as their source does. In HotSpot's metaspaceArena.cpp a chunk has its top itself.
-ghost use Rattle.std.specs.Prelude.{◌≡◌, ℕ, ◌+◌, ◌*◌, ◌^◌, ◌<◌, ◌≤◌, Some, None, Ok, Err, IfOk, OnOk, OnErr};
+ghost use Rattle.std.specs.Prelude.{◌≡◌, ℕ, ◌+◌, ◌*◌, ◌^◌, ◌<◌, ◌≤◌, Some, None, Ok, Err, IfOk, OnOk, OnErr, OnSome};
 ghost use Rattle.std.specs.Prelude.{IfErr, IfSome, IfNone, [], length, sum, slice_index, ◌-◌, vec_capacity, vec_len};
 ghost use Rattle.std.specs.Option.{option_map};
 ghost use Rattle.ms_base.specs.Level.{size_of};
@@ -145,6 +145,7 @@ impl Books {
     #[inline(always)]
     pub(crate) fn make_room(&mut self, blocks: usize) -> Result<(), AllocError>
         ensures room { OnOk result (blocks ≤ self.new.room) }
+        ensures few { OnOk result (self.new.room < 2 ^ 63) }
         ensures ordered { OnOk result (self.new.came ≡ 0) }
         ensures places { OnOk result (1 ≤ self.new.places) }
         ensures more { self.old.room ≤ self.new.room }
@@ -206,6 +207,7 @@ impl Books {
             ≡ option_map (λ start. (start, self.new.state)) result }
         ensures awaits { IfSome result
             (λ start. AwaitsBlock self.old.state self.new.state start n) }
+        ensures chunks { OnSome result (AreChunks self.new.space self.new.state.chunks) }
         ensures room { self.old.room ≤ self.new.room + 1 }
         ensures others { self.new ≡ record self.old {
           state = self.new.state;
@@ -244,6 +246,7 @@ impl Books {
             (start ≡ chunk.start + current_top self.old.state
             → total ≡ current_top self.old.state + n
             → AwaitsBlock self.old.state self.new.state start n) }
+        ensures chunks { OnOk result (AreChunks self.new.space self.new.state.chunks) }
         ensures refused { IfErr result (λ refusal. S.grew source.old (account_in self.old)
             chunk.start total may_enlarge (Err refusal) source.new) }
         ensures unchanged { OnErr result (self.new ≡ self.old) }

@@ -79,6 +79,7 @@ impl Kept {
     #[inline(always)]
     pub(crate) fn make_room(&mut self, blocks: usize) -> Result<(), AllocError>
         ensures room { OnOk result (blocks ≤ self.new.room) }
+        ensures few { OnOk result (self.new.room < 2 ^ 63) }
         ensures ordered { OnOk result (self.new.came ≡ 0) }
         ensures more { self.old.room ≤ self.new.room }
         ensures kept { self.new.kept ≡ self.old.kept }
@@ -138,8 +139,6 @@ impl Kept {
         requires { words_in self.now.kept < 2 ^ 64 }
         ensures { result ≡ words_in self.now.kept }
     {
-        // That each block in order has two words is learnt here.
-        let _ = self.ordered.len();
         self.ordered.total().wrapping_add(self.words)
     }
 }

@@ -38,7 +38,7 @@ use crate::totals::{ArenaTotals, sums_of};
 use crate::words::Words;
 use ms_base::{Block, Chunk, Kind, Level, ROOT_WORDS, Refusal, level_for};
 use ms_pool::{Account, ChunkSource};
-use std::alloc::{AllocError, Global};
+use std::alloc::Global;
 use std::marker::Model;
 
 /// For how many free blocks room is made at least, where few blocks are to come: nothing touches it
@@ -136,24 +136,18 @@ impl RawArena {
         ensures refused { IfErr result (λ refusal. PlaceRefused words refusal) }
         ensures unchanged { OnErr result (IsSameRaw self.old self.new) }
     {
-        let n = asked(words)?;
         let many = self.expects_many();
-        let Ok(()) = made_room(
+        let n = made_room(
             &mut self.books,
             &mut self.words,
             self.alloc,
             many,
             self.count,
-            n,
-        ) else {
-            return Err(Refusal::OutOfMemory);
-        };
-        // What is true of all books is learnt here, and once they have placed the block.
-        let _ = self.books.account();
+            words,
+        )?;
         match self.books.place(n) {
             None => Ok(None),
             Some(start) => {
-                let _ = self.books.account();
                 let block = entered(&mut self.words, &mut self.count, &mut self.total, start, n);
                 Ok(Some(block))
             }
@@ -176,22 +170,16 @@ impl RawArena {
         ensures chunks { OnOk result (AreChunks self.new.space self.new.books.chunks) }
         ensures unchanged { OnErr result (IsSameRaw self.old self.new) }
     {
-        let n = asked(words)?;
         let many = self.expects_many();
-        let Ok(()) = made_room(
+        let n = made_room(
             &mut self.books,
             &mut self.words,
             self.alloc,
             many,
             self.count,
-            n,
-        ) else {
-            return Err(Refusal::OutOfMemory);
-        };
-        // What is true of all books is learnt here, and once they have placed the block.
-        let _ = self.books.account();
+            words,
+        )?;
         let start = start_of(&mut self.books, source, self.kind, n)?;
-        let _ = self.books.account();
         let block = entered(&mut self.words, &mut self.count, &mut self.total, start, n);
         Ok(block)
     }
@@ -312,9 +300,10 @@ pub fn wanting_room(words: u64) -> Refusal
     }
 }
 
-/// Makes all room that a block of n words may need beside so many live ones: for its words, a top,
-/// and for free blocks, as many as live blocks and two more: its own when it is freed, and the rest
-/// of a chunk that retires. Makes more where many blocks are to come.
+/// Tells how many words the block of a request has, and makes all room that it may need beside so
+/// many live ones: for its words, a top, and for free blocks, as many as live blocks and two more:
+/// its own when it is freed, and the rest of a chunk that retires. Makes more where many blocks are
+/// to come.
 #[inline(always)]
 fn made_room(
     books: &mut Books,
@@ -322,22 +311,29 @@ fn made_room(
     alloc: Global,
     many: bool,
     live: usize,
-    n: u64,
-) -> Result<(), AllocError>
+    request: u64,
+) -> Result<u64, Refusal>
+    ensures words_of { IfOk result (λ n. n ≡ block_words request) }
+    ensures askable { OnOk result (IsAskable request) }
+    ensures some { IfOk result (λ n. 2 ≤ n) }
+    ensures fits_root { IfOk result (λ n. n ≤ size_of 0) }
+    ensures refused { IfErr result (λ refusal. PlaceRefused request refusal) }
     ensures room { OnOk result (live + 2 ≤ books.new.room) }
     ensures fits { OnOk result (live + 2 < 2 ^ 64) }
     ensures ordered { OnOk result (books.new.came ≡ 0) }
     ensures places { OnOk result (0 < books.new.places) }
-    ensures run { OnOk result (HasRoom words.new n) }
+    ensures run { IfOk result (λ n. HasRoom words.new n) }
     ensures books { IsSameBooks books.old books.new }
     ensures words { StayWords words.old words.new }
 {
-    let Some(blocks) = live.checked_add(2) else {
-        return Err(AllocError);
-    };
+    let n = asked(request)?;
     let least = if many { MANY_BLOCKS } else { FEW_BLOCKS };
-    books.make_room(blocks.max(least))?;
-    words.reserve(alloc, n, many)
+    // A count past all vectors' room is refused by the growth itself.
+    let blocks = live.saturating_add(2).max(least);
+    if books.make_room(blocks).is_err() || words.reserve(alloc, n, many).is_err() {
+        return Err(Refusal::OutOfMemory);
+    }
+    Ok(n)
 }
 
 /// Makes a block of the words of a run, and counts it, in room that there is.

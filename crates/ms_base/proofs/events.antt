@@ -17,3 +17,4 @@ pub mod FirstLemmas
 pub mod WholeLemmas
 pub mod SeenLemmas
 pub mod SerialLemmas
+pub mod StageAtLemmas

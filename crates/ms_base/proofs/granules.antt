@@ -8,7 +8,13 @@ pub mod CommittedRoomLemmas
 pub mod FrontLemmas
 pub mod FrontSumLemmas
 pub mod GranuleCountLemmas
+pub mod SlotGranuleLemmas
+pub mod BetweenLemmas
 pub mod NeedLemmas
+pub mod TakingLimitLemmas
+pub mod EnoughLemmas
 pub mod MissingLemmas
+pub mod UnreservedLemmas
 pub mod GranuleGrowingLemmas
 pub mod CoverLemmas
+pub mod TimesLemmas

@@ -1,6 +1,8 @@
 pub mod RankLemmas
 pub mod FewLemmas
 pub mod ClassLemmas
+pub mod ClassChangeLemmas
+pub mod ClassBitLemmas
 pub mod KeptEntryLemmas
 pub mod StartLemmas
 pub mod LaidLemmas

@@ -120,9 +120,11 @@ impl<A: Allocator> FreeBlocks<A> {
         Some(block)
     }
 
-    /// Tells how many words the free blocks have together, below 2 ^ 64.
+    /// Tells how many words the free blocks have together, below 2 ^ 64. They lie apart, and each
+    /// has at least two words.
     pub fn total(&self) -> u64
-        ensures { result ≡ words_in self.now.kept }
+        ensures sum { result ≡ words_in self.now.kept }
+        ensures apart { AreKept self.now.kept }
     {
         self.total
     }

@@ -9,3 +9,6 @@ pub mod KeptTreeLemmas
 pub mod bits
 pub mod counts
 pub mod CallLemmas
+pub mod LentPartLemmas
+pub mod LendLemmas
+pub mod PlaceChangeLemmas

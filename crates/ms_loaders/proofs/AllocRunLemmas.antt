@@ -14,7 +14,8 @@ use Rattle.ms_base.specs.Spaces.{by_space, is_in, other_space}
 use Rattle.ms_base.specs.State.{committed_now}
 use Rattle.ms_base.specs.PoolSteps.Pick.{granule_in, has_committed}
 use Rattle.ms_base.proofs.arena.BlockLemmas.{not_in_other}
-use Rattle.ms_base.proofs.granules.GranuleCountLemmas.{committed_in_slots, committed_with_slot, meets_front}
+use Rattle.ms_base.proofs.granules.GranuleCountLemmas.{committed_in_slots, meets_front}
+use Rattle.ms_base.proofs.granules.SlotGranuleLemmas.{committed_with_slot}
 use Rattle.ms_base.proofs.granules.GranuleGrowingLemmas.{meets_further}
 use Rattle.ms_pool.specs.Account.{AccountState, AreChunks}
 use Rattle.ms_pool.specs.Ledger.{Ledger, Loan, IsSoundLedger, Serves, state_in, held_in, committed_of, with_lent, with_grown}
@@ -23,7 +24,8 @@ use Rattle.ms_pool.proofs.ledger.LoanLemmas.{chunks_in, chunks_in-append, chunks
 use Rattle.ms_pool.proofs.ledger.LoanLemmas.{Comes, comes}
 use Rattle.ms_pool.proofs.ledger.LoanAtLemmas.{contains_at}
 use Rattle.ms_pool.proofs.ledger.GreaterLemmas.{IsGreater, grown_is_greater}
-use Rattle.ms_pool.proofs.ledger.GrowLemmas.{GrownThere, GrownWell, grown_there, grown_well, own_is_held}
+use Rattle.ms_pool.proofs.ledger.GrowLemmas.{GrownThere, grown_there, own_is_held}
+use Rattle.ms_pool.proofs.ledger.GrownAccountLemmas.{GrownWell, grown_well}
 use Rattle.ms_loaders.proofs.CommitLemmas.{Commits}
 
 -- The granules of a pool that follow its chunks and slots.

@@ -41,7 +41,8 @@ use Rattle.ms_loaders.proofs.steps.AskedLemmas.{outcome}
 use Rattle.ms_loaders.proofs.calls.LoaderSpaceLemmas.{chunk_in_space}
 use Rattle.ms_loaders.proofs.steps.OutcomeLemmas.{GrewAtAll, GrownBy, IsMade, LentBy, TookAtAll}
 use Rattle.ms_loaders.proofs.steps.AlikeLemmas.{allocates_at_all}
-use Rattle.ms_loaders.proofs.steps.ServedLemmas.{apart_of, own_served, own_sound}
+use Rattle.ms_loaders.proofs.steps.ServedLemmas.{apart_of}
+use Rattle.ms_loaders.proofs.steps.StillTogetherLemmas.{own_served, own_sound}
 use Rattle.ms_loaders.proofs.steps.StepGoesLemmas.{pool_calls}
 
 -- How many granules are committed in both spaces.

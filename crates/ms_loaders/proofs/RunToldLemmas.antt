@@ -25,7 +25,8 @@ use Rattle.ms_base.proofs.granules.FreeGranuleLemmas.{bounds_meet, meeting_lies_
 use Rattle.ms_base.proofs.free.HalvesLemmas.{size_some}
 use Rattle.ms_base.proofs.runs.ApartLemmas.{meet_turned}
 use Rattle.ms_base.proofs.granules.GranuleLemmas.{below_from_product, in_range}
-use Rattle.ms_base.proofs.granules.GranuleCountLemmas.{is_between, meets_between, meets_front}
+use Rattle.ms_base.proofs.granules.GranuleCountLemmas.{meets_front}
+use Rattle.ms_base.proofs.granules.BetweenLemmas.{is_between, meets_between}
 use Rattle.ms_loaders.specs.Committing.{is_in_run, first_past, run_of}
 use Rattle.ms_loaders.proofs.CommitLemmas.{Commits, among_filtered, came_by_front, fronted, its_front, none_replaced}
 use Rattle.ms_loaders.proofs.CommitLemmas.{its_part, was_not}

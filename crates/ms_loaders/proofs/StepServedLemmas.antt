@@ -21,7 +21,7 @@ use Rattle.ms_pool.specs.Ledger.{Ledger, Serves, IsSoundLedger, opened_in}
 use Rattle.ms_loaders.specs.Loader.{LoaderView}
 use Rattle.ms_loaders.specs.System.{AreTogether, HasNoValue, IsNoRefusal}
 use Rattle.ms_loaders.specs.Serving.{MayServe, Served}
-use Rattle.ms_loaders.proofs.steps.ServedLemmas.{own_served}
+use Rattle.ms_loaders.proofs.steps.StillTogetherLemmas.{own_served}
 use Rattle.ms_loaders.proofs.steps.StepLemmas.{lacks_loader}
 use Rattle.ms_loaders.proofs.steps.StepGoesLemmas.{pool_calls, Goes, stays, makes, not_made, allocates_at, allocates_none}
 use Rattle.ms_loaders.proofs.steps.StepGoesLemmas.{writes, frees, reads, no_word_to_write, no_word_to_read}

@@ -1,5 +1,6 @@
 -- A loader's own calls, and what they make of its blocks.
 pub mod LoaderLemmas
+pub mod ReplacedLemmas
 pub mod LoaderAllocLemmas
 pub mod LoaderSpaceLemmas
 pub mod NamedRunLemmas

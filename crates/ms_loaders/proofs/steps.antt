@@ -6,8 +6,11 @@ pub mod AskedLemmas
 pub mod OutcomeLemmas
 pub mod CauseLemmas
 pub mod ServedLemmas
+pub mod HasOwnerLemmas
+pub mod StillTogetherLemmas
 pub mod CallLemmas
 pub mod CloseLemmas
+pub mod PurgeStepLemmas
 pub mod StepGoesLemmas
 pub mod UnloadLemmas
 pub mod RunLemmas

@@ -6,4 +6,5 @@ pub mod UsedLemmas
 pub mod DetailLemmas
 pub mod SettleLemmas
 pub mod FitLemmas
+pub mod OwnedLoanLemmas
 pub mod MapLemmas

@@ -336,16 +336,15 @@ impl Loaders {
         ensures names { AreNamed self.now }
         ensures sound { All IsSoundView (values_of self.now) }
     {
-        // That names rise is learnt here.
-        let _ = self.len();
         for loader in self.values() {
             let _ = loader.accounts();
         }
     }
 
-    /// Goes over the loaders in order of name. Takes no memory.
+    /// Goes over the loaders in order of name, and names rise. Takes no memory.
     pub fn values(&self) -> Values<'_>
-        ensures { result ≡ values_of self.now }
+        ensures all { result ≡ values_of self.now }
+        ensures names { AreNamed self.now }
     {
         Values::over(&self.places)
     }

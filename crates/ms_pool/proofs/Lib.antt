@@ -4,6 +4,7 @@ pub mod OwnerLemmas
 pub mod maps
 pub mod WholeRootLemmas
 pub mod PurgingLemmas
+pub mod PurgedToLemmas
 pub mod searches
 pub mod counts
 pub mod loans

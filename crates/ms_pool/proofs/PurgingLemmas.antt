@@ -3,7 +3,7 @@
 use Rattle.std.proofs.Common.{◌≡◌, ◌<◌, ◌≤◌, ℕ, zero, suc, ◌+◌, ◌-◌, ◌*◌, ◌/◌, Bool, true, false, cond, not, ◌&&◌, ◌||◌, ◌==◌, List, []}
 use Rattle.std.proofs.Common.{◌∷◌, length, refl, sym, ap, ap₂, subst, ◌∙◌, arith}
 use Rattle.std.specs.Prelude.{nat_le}
-use Rattle.std.specs.List.{AllByRecursion, filter, All}
+use Rattle.std.specs.List.{AllByRecursion, filter}
 use Rattle.std.specs.List.Sorted.{IsStrictlyIncreasing}
 use Rattle.std.proofs.lemmas.Bool.{or_parts}
 use Rattle.std.proofs.lemmas.Bool.Decides.{nat_tests}
@@ -19,18 +19,16 @@ use Rattle.ms_base.specs.Policy.{granule_of, slot_granules}
 use Rattle.ms_base.specs.Held.{has_chunk_in}
 use Rattle.ms_base.specs.Committed.{committed_with, is_among, is_committed_now}
 use Rattle.ms_commit.specs.NumberSet.{is_in_range, without_number, without_range}
-use Rattle.ms_commit.specs.Nodes.{NodesState, granules_in, node_granules, without_slot, NodeLimits, AreSound}
+use Rattle.ms_commit.specs.Nodes.{NodesState, granules_in, node_granules, without_slot}
 use Rattle.ms_commit.proofs.ModelLemmas.{committed_rise, granules_are_committed, is_among-committed}
 use Rattle.ms_commit.proofs.NodesLemmas.{in_own_slot}
 use Rattle.ms_commit.proofs.RangeLemmas.{filter-filter, is_among-filter}
 use Rattle.ms_commit.proofs.SetLemmas.{is_among-without_range}
 use Rattle.ms_commit.proofs.SpaceLemmas.{leaves_with_its_granules}
-use Rattle.ms_buddy.specs.Leaves.{LentLeaf, AreLeaves}
 use Rattle.ms_pool.specs.declared.lender.Lender.{Lender}
 use Rattle.ms_pool.specs.Ledger.{Ledger, IsSoundLedger, held_in, purged, recommitted}
-use Rattle.ms_pool.specs.Keeping.{ledger_of, IsKept}
+use Rattle.ms_pool.specs.Keeping.{ledger_of}
 use Rattle.ms_pool.proofs.returns.PoolSettleLemmas.{settled_already}
-use Rattle.ms_pool.proofs.ledger.PurgeLemmas.{purged_is_sound}
 
 -- A slot stays: it is one of those not looked at yet, or has a chunk.
 abbrev pub stays_at : ℕ → List Chunk → ℕ → Bool
@@ -265,61 +263,3 @@ pub no_more_slots : (old mid : Ledger) (at_ : ℕ) → mid ≡ purged_to at_ old
 no_more_slots old mid at_ before =
     subst (λ (l : Ledger). length l.slots ≤ length old.slots) (sym before)
     (length_filter (stays_at at_ (held_in NonClass old)) old.slots)
-
--- The slots below one were looked at, and nothing but the nodes has changed.
-pub record IsPurgedTo (old mid : Lender) (at_ : ℕ) : Type 0 where
-  pub trees : mid.trees.items ≡ old.trees.items
-  pub lent : mid.lent ≡ old.lent
-  pub limits : mid.nodes.limits ≡ old.nodes.limits
-  pub policy : mid.policy ≡ old.policy
-  pub purged : ledger_of mid ≡ purged_to at_ (ledger_of old)
-
-pub skipped_to : (old mid : Lender) (from to : ℕ) → from ≤ to → IsPurgedTo old mid from
-    → ((k : ℕ) → from ≤ k → k < to → is_reserved mid.nodes.slots k ≡ false) → IsPurgedTo old mid to
-skipped_to old mid from to up before none =
-    record {
-      trees = before.trees;
-      lent = before.lent;
-      limits = before.limits;
-      policy = before.policy;
-      purged = skips_to (ledger_of old) (ledger_of mid) from to up before.purged none;
-    }
-
-pub passes : (old mid : Lender) (at_ : ℕ) → IsPurgedTo old mid at_ → ledger_of mid ≡ purged_to (at_ + 1) (ledger_of old)
-    → IsPurgedTo old mid (at_ + 1)
-passes old mid at_ before purged =
-    record {
-      trees = before.trees;
-      lent = before.lent;
-      limits = before.limits;
-      policy = before.policy;
-      purged = purged;
-    }
-
-pub drops_next : (old mid new : Lender) (at_ : ℕ) → IsKept old → IsPurgedTo old mid at_ → at_ < 64
-    → new ≡ record mid { nodes = without_slot mid.nodes at_ }
-    → has_chunk_in (held_in NonClass (ledger_of mid)) at_ ≡ false → IsPurgedTo old new (at_ + 1)
-drops_next old mid new at_ kept before low is none =
-    subst (λ (l : Lender). IsPurgedTo old l (at_ + 1)) (sym is) (record {
-      trees = before.trees;
-      lent = before.lent;
-      limits = before.limits;
-      policy = before.policy;
-      purged = drops (ledger_of old) mid at_ kept.sound low
-          (ap (λ (l : NodeLimits). l.granule) before.limits ∙ kept.granule) before.purged none;
-    })
-
-pub kept_once_purged : (old mid : Lender) (at_ : ℕ) → IsKept old → IsPurgedTo old mid at_ → at_ ≡ 64
-    → AreSound mid.nodes → IsKept mid
-kept_once_purged old mid at_ kept before end sound = record {
-  trees = ap (λ (trees : List (List LentLeaf)). length trees) before.trees ∙ kept.trees
-      ∙ sym (ap (λ (l : Ledger). 2 * (64 + l.limits.class_nodes)) last);
-  leaves = subst (All AreLeaves) (sym before.trees) kept.leaves;
-  granule = ap (λ (l : NodeLimits). l.granule) before.limits ∙ kept.granule
-      ∙ sym (ap (λ (l : Ledger). granule_of l.limits.policy) last);
-  nodes = sound;
-  sound = subst IsSoundLedger (sym last) (purged_is_sound (ledger_of old) kept.sound);
-}
-  where
-    last : ledger_of mid ≡ purged (ledger_of old)
-    last = purged_at_last (ledger_of old) (ledger_of mid) at_ kept.sound end before.purged

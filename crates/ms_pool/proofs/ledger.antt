@@ -12,6 +12,7 @@ pub mod TakeLemmas
 pub mod GreaterLemmas
 pub mod LoanAtLemmas
 pub mod GrowLemmas
+pub mod GrownAccountLemmas
 pub mod FewerLemmas
 pub mod LedgerCloseLemmas
 pub mod LedgerOpenLemmas

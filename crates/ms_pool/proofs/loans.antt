@@ -3,5 +3,6 @@ pub mod CarvedPartLemmas
 pub mod LendLemmas
 pub mod OpenLemmas
 pub mod LentPartLemmas
+pub mod ShownLemmas
 pub mod TakingLemmas
 pub mod NoneMissingLemmas

@@ -52,8 +52,6 @@ impl Lender {
         ensures holds { AreChunks account.new.space account.new.chunks }
         ensures level { most ≤ highest_level }
     {
-        // That a level is at most 12 is learnt here.
-        let _ = most.number();
         let space = account.space;
         let owner = account.owner;
         let Some(span) = self.pick(space, wanted, most, words) else {
@@ -84,6 +82,7 @@ impl Lender {
         ensures picked { IfSome result
             (λ span. span ≡ part_picked (state_in space (ledger_of self.now)) wanted most words) }
         ensures slot { IfSome result (λ span. IsOpen space self.now.nodes (slot_of span.start)) }
+        ensures level { most ≤ highest_level }
         ensures room { OnSome result
             (is_full (state_in space (ledger_of self.now)) most ≡ false) }
         ensures full { IfNone result

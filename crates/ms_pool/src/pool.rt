@@ -70,6 +70,8 @@ impl Pool {
         ensures opened { Opened self.old space result self.new }
         ensures served { IfOk result (λ account. Serves self.new account) }
         ensures given { self.new.given < 2 ^ 32 }
+        ensures before { IsSoundLedger self.old }
+        ensures after { IsSoundLedger self.new }
     {
         self.lender.open(space)
     }
@@ -81,6 +83,8 @@ impl Pool {
         ensures served { IfOk result (λ accounts. Serves self.new accounts.0) }
         ensures class_served { IfOk result (λ accounts. Serves self.new accounts.1) }
         ensures given { self.new.given < 2 ^ 32 }
+        ensures before { IsSoundLedger self.old }
+        ensures after { IsSoundLedger self.new }
     {
         self.lender.open_both()
     }
@@ -103,6 +107,7 @@ impl Pool {
         ensures unchanged { OnErr result (account.new ≡ account.old) }
         ensures took { Took self.old account.old wanted most words result self.new }
         ensures before { IsSoundLedger self.old }
+        ensures after { IsSoundLedger self.new }
         ensures held { AreChunks account.old.space account.old.chunks }
         ensures holds { AreChunks account.new.space account.new.chunks }
         ensures level { most ≤ highest_level }
@@ -127,6 +132,7 @@ impl Pool {
         ensures unchanged { OnErr result (account.new ≡ account.old) }
         ensures grew { Grew self.old account.old start total may_enlarge result self.new }
         ensures before { IsSoundLedger self.old }
+        ensures after { IsSoundLedger self.new }
         ensures held { AreChunks account.old.space account.old.chunks }
         ensures holds { AreChunks account.new.space account.new.chunks }
     {
@@ -137,7 +143,9 @@ impl Pool {
     pub fn close(&mut self, account: Account)
         requires served { Serves self.old account }
         requires counted { 0 < opened_in self.old account.space }
-        ensures { Closed self.old account self.new }
+        ensures closed { Closed self.old account self.new }
+        ensures before { IsSoundLedger self.old }
+        ensures after { IsSoundLedger self.new }
     {
         self.lender.close(&account);
         self.lender.spare.keep(account);
@@ -151,6 +159,7 @@ impl Pool {
         requires class_counted { 0 < self.old.class_opened }
         ensures closed { ClosedBoth self.old account class_account self.new }
         ensures before { IsSoundLedger self.old }
+        ensures after { IsSoundLedger self.new }
     {
         self.lender.close_both(&account, &class_account);
         self.lender.spare.keep(account);
@@ -160,7 +169,9 @@ impl Pool {
     /// Drops the nodes that hold no chunk, their granules with them, and answers how many they
     /// were; those of the class space stay. Takes no memory. After HotSpot, virtualSpaceList.cpp.
     pub fn purge(&mut self) -> u32
-        ensures { Purged self.old result self.new }
+        ensures purged { Purged self.old result self.new }
+        ensures before { IsSoundLedger self.old }
+        ensures after { IsSoundLedger self.new }
     {
         self.lender.purge()
     }
@@ -170,6 +181,7 @@ impl Pool {
         ensures sums { sums_in result
             ≡ pool_sums (state_in account.now.space self.now) (opened_in self.now account.now.space) }
         ensures held { AreChunks account.now.space account.now.chunks }
+        ensures sound { IsSoundLedger self.now }
     {
         self.lender.totals(account.space)
     }

@@ -15,7 +15,7 @@
 //! free parts of a level. Nothing here takes memory. After HotSpot's chunkManager.cpp; the order is
 //! this project's choice.
 ghost use Rattle.std.specs.Prelude.{◌≡◌, ℕ, ◌+◌, ◌-◌, ◌*◌, ◌/◌, ◌<◌, ◌≤◌, ◌^◌, ◌||◌, false, not, [], length, get_or, min};
-ghost use Rattle.ms_base.specs.Level.{root_words, size_of};
+ghost use Rattle.ms_base.specs.Level.{root_words, size_of, highest_level};
 ghost use Rattle.ms_buddy.specs.Leaves.{has_level};
 ghost use Rattle.ms_base.specs.Policy.{granule_of};
 ghost use Rattle.ms_base.specs.Part.{is_reserved};
@@ -51,7 +51,8 @@ impl Lender {
     pub(crate) fn found(&self, space: Space, wanted: Level, most: Level, words: u64) -> Option<Span>
         requires kept { IsKept self.now }
         requires asks { MayTake wanted most words }
-        ensures { result ≡ first_found (state_in space (ledger_of self.now)) wanted most words }
+        ensures first { result ≡ first_found (state_in space (ledger_of self.now)) wanted most words }
+        ensures level { most ≤ highest_level }
     {
         let committed = Wish {
             space,
@@ -101,9 +102,10 @@ impl Lender {
             wish.now.words wish.now.committed }
         requires levels { wanted ≤ most }
         requires fits { wish.now.words ≤ size_of most }
-        ensures { result
+        ensures first { result
             ≡ first_up (state_in wish.now.space (ledger_of self.now)) wish.now.words
             wish.now.committed wanted (min (wanted + 2) most) }
+        ensures level { most ≤ highest_level }
     {
         let two_more = wanted.number() + 2;
         if two_more < most.number() {

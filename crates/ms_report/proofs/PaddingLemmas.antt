@@ -82,7 +82,7 @@ line_length table texts fit = omega (arith, length-append (cells table texts) (1
 pub level_line_length : (level held free : ℕ) → level ≤ 12 → held ≤ 655360 → free ≤ 655360
     → length (table_line level_table (level_texts level held free)) ≡ 32
 level_line_length level held free low few some =
-    let words : size_of level ≤ 524288 = size_falls 0 level (omega arith) low in
+    let words : size_of level ≤ 524288 = size_falls 0 level (omega arith) in
     line_length level_table (level_texts level held free) (
       length-decimal-le 5 level (omega arith) (omega (arith, low)) (omega (arith, low)),
       (

@@ -29,7 +29,8 @@ use Rattle.ms_run.specs.Shares.{IsMannedShare}
 use Rattle.ms_run.specs.Joined.{AreJoined, seat_of}
 use Rattle.ms_run.proofs.sharing.GatherLemmas.{Loaders, joined_sum, joined_all}
 use Rattle.ms_loaders.proofs.steps.ServedLemmas.{times, one_if, is_it}
-use Rattle.ms_loaders.proofs.sums.FitLemmas.{chunk_of, owner_of}
+use Rattle.ms_loaders.proofs.sums.FitLemmas.{owner_of}
+use Rattle.ms_loaders.proofs.sums.OwnedLoanLemmas.{chunk_of}
 use Rattle.ms_run.proofs.ShareSumLemmas.{OfBoth, all_seats, by_account, by_loader, one_each, ones, owned, owned_sum}
 use Rattle.ms_run.proofs.ShareSumLemmas.{seats_sum, sums_le, sums_same}
 

@@ -44,7 +44,7 @@ use Rattle.ms_shared.proofs.RecordLemmas.{has_record}
 use Rattle.ms_run.specs.Manned.{IsManned}
 use Rattle.ms_loaders.proofs.steps.ServedLemmas.{KeepsOther, all_parts, all_still, block_keeps, length_changed}
 use Rattle.ms_loaders.proofs.steps.ServedLemmas.{accounts_split, own_is_among, owners_stay}
-use Rattle.ms_loaders.proofs.sums.FitLemmas.{chunk_of}
+use Rattle.ms_loaders.proofs.sums.OwnedLoanLemmas.{chunk_of}
 
 -- All that the seat knows of an owner is that it holds no chunk.
 abbrev pub HoldsNothing : SeatView → ℕ → Type 0

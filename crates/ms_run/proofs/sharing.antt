@@ -5,7 +5,9 @@ pub mod SeatsLemmas
 pub mod DealLemmas
 pub mod HandedEntryLemmas
 pub mod HandOnLemmas
+pub mod HandedNamesLemmas
 pub mod GatherLemmas
+pub mod DifferLemmas
 pub mod TaskLemmas
 pub mod MergeLemmas
 pub mod TakenApartLemmas

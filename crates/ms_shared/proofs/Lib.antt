@@ -5,6 +5,7 @@ pub mod WeaveLemmas
 pub mod StrandLemmas
 pub mod LoggedLemmas
 pub mod LockLemmas
+pub mod LetGoLemmas
 pub mod SeatCutLemmas
 pub mod SeatGatherLemmas
 pub mod SeatDealLemmas

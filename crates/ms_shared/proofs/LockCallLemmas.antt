@@ -30,7 +30,7 @@ use Rattle.ms_shared.specs.SeatView.{ids_of_open, raise}
 use Rattle.ms_shared.specs.LockCalls.{TakeTallies, GrowTallies}
 use Rattle.ms_shared.specs.LockRule.{Sat, Moves, after, with_pool, taken_of}
 use Rattle.ms_shared.proofs.RecordLemmas.{has_record, has_times, has_left, has_right, has_refreshed}
-use Rattle.ms_shared.proofs.LockLemmas.{opened_after}
+use Rattle.ms_shared.proofs.LetGoLemmas.{opened_after}
 use Rattle.ms_shared.proofs.MovesLemmas.{tallies_stay, tallies_rise}
 use Rattle.ms_shared.proofs.SeatDealLemmas.{seen_as}
 use Rattle.ms_shared.proofs.StrandLemmas.{first_extended}

@@ -12,7 +12,6 @@
 //! Metaspace_lock.
 ghost use Rattle.std.specs.Prelude.{◌≡◌, ◌<◌, ◌≤◌, ◌↔◌, ◌∷◌, [], Some, None, IsOk, IfOk, IfErr, vec_len, length};
 ghost use Rattle.std.specs.List.{All};
-ghost use Rattle.ms_pool.specs.Ledger.{IsSoundLedger};
 ghost use Rattle.ms_shared.specs.SeatView.{IsKnown, Gathers, IsHistory, ServesBy, HandsOn, opened_by, new_seats};
 ghost use Rattle.ms_shared.specs.SeatView.{without_account, with_account};
 ghost use Rattle.ms_shared.specs.LockRule.{Moves, IsWhole, after, with_pool, taken_of, both, view_without, note_of};
@@ -183,8 +182,7 @@ impl SharedPool {
         shared.join_seat::<JoinViews>(from, part);
     }
 
-    /// Takes the pool, once no other seat has it. A caller also learns here what is true of every
-    /// pool. Tries again until it has the pool.
+    /// Takes the pool, once no other seat has it. Tries again until it has the pool.
     pub(crate) fn seize<R: Wait>(&self, rt: &R, seat: &mut Seat<Option<Pool>, LockView>) -> Pool
         requires own { seat.old.table_id ≡ self.now.id }
         requires slots { seat.old.me.1 ≡ [] }
@@ -193,22 +191,18 @@ impl SharedPool {
         ensures own { seat.new.table_id ≡ seat.old.table_id }
         ensures seat { seat.new.me ≡ (with_pool seat.old.me.0 result, (0, None) ∷ []) }
         ensures known { IsKnown result seat.old.me.0.knows }
-        ensures sound { IsSoundLedger result }
     {
         let shared = &self.table.shared;
         for _ in rt.forever() {
             if shared.compare_exchange::<Tries>(seat, 0, 0, 1) == 0 {
-                let pool = shared.exchange(seat, 0, None).unwrap();
-                // What is true of every pool is learnt here.
-                let _ = pool.committed();
-                return pool;
+                return shared.exchange(seat, 0, None).unwrap();
             }
             thread::yield_now();
         }
         unreachable!()
     }
 
-    /// Puts the pool back. A caller also learns here what is true of every pool. Does not wait.
+    /// Puts the pool back. Does not wait.
     pub(crate) fn let_go(&self, seat: &mut Seat<Option<Pool>, LockView>, pool: Pool)
         requires own { seat.old.table_id ≡ self.now.id }
         requires live { 0 < seat.old.me.0.parts }
@@ -218,11 +212,8 @@ impl SharedPool {
         requires moves { Moves seat.old.me.0.knows (taken_of seat.old.me.0) pool }
         ensures own { seat.new.table_id ≡ seat.old.table_id }
         ensures seat { seat.new.me ≡ (after seat.old.me.0 (taken_of seat.old.me.0) pool, []) }
-        ensures sound { IsSoundLedger pool }
     {
         let shared = &self.table.shared;
-        // What is true of every pool is learnt here.
-        let _ = pool.committed();
         drop(shared.exchange(seat, 0, Some(pool)));
         shared.store::<LetsGo>(seat, 0, 0);
     }

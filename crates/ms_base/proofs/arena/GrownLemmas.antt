@@ -28,7 +28,7 @@ use Rattle.ms_base.proofs.runs.ApartLemmas.{All-middle_of, list_any-rest_of, mee
 use Rattle.ms_base.proofs.machine.HeldLemmas.{IsPlaced, held_rest, held_with}
 use Rattle.ms_base.proofs.machine.GoodLemmas.{chunks_split}
 use Rattle.ms_base.proofs.machine.ChangeLemmas.{changed, good_with_change, slots_same}
-use Rattle.ms_base.proofs.machine.BackedLemmas.{middle_is_clear}
+use Rattle.ms_base.proofs.machine.BlocksApartLemmas.{middle_is_clear}
 
 -- The chunks before and after a place.
 pub record Parted (chunks : List Chunk) (place : ℕ) (was is : Chunk) : Type 0 where

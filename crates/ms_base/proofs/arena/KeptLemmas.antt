@@ -15,7 +15,7 @@ use Rattle.ms_base.specs.Good.{is_in_use, IsSound}
 use Rattle.ms_base.proofs.entries.NameLemmas.{rises_with_new}
 use Rattle.ms_base.proofs.entries.EntryLemmas.{Split, split_at, Gap, gap_at, rises_without}
 use Rattle.ms_base.proofs.runs.ApartLemmas.{list_all-rest_of, apart-rest_of, list_all-with, list_any-with, apart-with}
-use Rattle.ms_base.proofs.machine.BackedLemmas.{middle_is_clear}
+use Rattle.ms_base.proofs.machine.BlocksApartLemmas.{middle_is_clear}
 
 -- A run that meets none of an arena's blocks, has two words and lies below a top.
 pub record Fits (arena : ArenaState) (live : List (ℕ × ℕ)) (run : ℕ × ℕ) : Type 0 where

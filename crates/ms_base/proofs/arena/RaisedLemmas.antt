@@ -16,7 +16,8 @@ use Rattle.ms_base.specs.State.{ArenaState}
 use Rattle.ms_base.specs.Good.{topped, is_in_use, IsSound}
 use Rattle.ms_base.specs.Place.{tops_with}
 use Rattle.ms_base.proofs.runs.ApartLemmas.{meet_turned}
-use Rattle.ms_base.proofs.machine.BackedLemmas.{further, some_front, in_use_in_front, clear_of_others}
+use Rattle.ms_base.proofs.machine.BackedLemmas.{further, in_use_in_front}
+use Rattle.ms_base.proofs.machine.BlocksApartLemmas.{some_front, clear_of_others}
 use Rattle.ms_base.proofs.arena.KeptLemmas.{Fits}
 use Rattle.ms_base.proofs.arena.TopLemmas.{none_topped}
 

@@ -24,7 +24,7 @@ use Rattle.ms_base.specs.Request.{alloc_in}
 use Rattle.ms_base.specs.Run.Event.{taking, growing, acting, lent, replied, refused, Takes, TakesNone, GrowsChunk, with_chunk_at}
 use Rattle.ms_base.specs.Run.Spread.{SpreadStep, Part, AreWhole, AsksChunk, words_for}
 use Rattle.ms_base.specs.Run.Serial.{is_place}
-use Rattle.ms_base.proofs.granules.NeedLemmas.{taken_is}
+use Rattle.ms_base.proofs.granules.TakingLimitLemmas.{taken_is}
 use Rattle.ms_base.proofs.machine.ChangeLemmas.{slots_same}
 use Rattle.ms_base.proofs.events.GrownEventLemmas.{grows_well, set_same}
 use Rattle.ms_base.proofs.events.EventCauseLemmas.{NoneCause, none_cause, leaves_same}

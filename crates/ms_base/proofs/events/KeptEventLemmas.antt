@@ -27,7 +27,7 @@ use Rattle.ms_base.proofs.machine.GoodLemmas.{each_space, chunks_split, loader_i
 use Rattle.ms_base.proofs.machine.AddedLemmas.{MayReserve, IsAddable, slots_then, good_with_chunk}
 use Rattle.ms_base.proofs.machine.SlotLemmas.{reserved_with, slots_rise_with}
 use Rattle.ms_base.proofs.granules.GranuleCountLemmas.{meets_front, count_with_front, committed_in_slots}
-use Rattle.ms_base.proofs.granules.GranuleCountLemmas.{committed_with_slot}
+use Rattle.ms_base.proofs.granules.SlotGranuleLemmas.{committed_with_slot}
 use Rattle.ms_base.proofs.runs.ApartLemmas.{list_any-with}
 use Rattle.ms_base.proofs.arena.BlockLemmas.{arena_there, arena_elsewhere}
 

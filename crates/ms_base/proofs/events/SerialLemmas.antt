@@ -1,10 +1,10 @@
 -- Each spread is serial, by a walk over its moments from the last: before each there is a machine
 -- of the serial order from which its steps are a run.
-use Rattle.std.proofs.Common.{◌≡◌, ℕ, Bool, false, cond, Option, Some, None, List, [], ◌∷◌, ◌++◌, map, refl, sym, ap}
+use Rattle.std.proofs.Common.{◌≡◌, ℕ, Option, Some, None, List, [], ◌∷◌, ◌++◌, refl, sym, ap}
 use Rattle.std.proofs.Common.{◌∙◌, subst, inl, inr}
-use Rattle.std.specs.Prelude.{⊤, ◌==◌}
+use Rattle.std.specs.Prelude.{⊤}
 use Rattle.std.specs.List.{AllByRecursion, filter}
-use Rattle.std.proofs.lemmas.Bool.{cases_eq, eq-eqb, false_from_ne_true, eqb-true}
+use Rattle.std.proofs.lemmas.Bool.{cases_eq}
 use Rattle.std.proofs.lemmas.List.Elements.{recursion_from_All, All-from_recursion}
 use Rattle.ms_base.specs.declared.kind.Space.{Space}
 use Rattle.ms_base.specs.declared.kind.Space.TheVariants.{NonClass}
@@ -29,12 +29,14 @@ use Rattle.ms_base.proofs.granules.FrontSumLemmas.{nothing_is_left}
 use Rattle.ms_base.proofs.events.SeenEntryLemmas.{same_entries}
 use Rattle.ms_base.proofs.events.KeptEventLemmas.{TakingIsAddable}
 use Rattle.ms_base.proofs.events.HappenLemmas.{good_after, others_after}
-use Rattle.ms_base.proofs.events.StageLemmas.{Stage, idle, turned_down, owes_block, owes_refusal, unloading, retracting}
+use Rattle.ms_base.proofs.events.StageLemmas.{Stage, idle}
 use Rattle.ms_base.proofs.events.StageLemmas.{Shows, Was, Left, GoesBack, GoesOnBy}
 use Rattle.ms_base.proofs.events.BackLemmas.{done_there, with_seen, recommitted_seen}
 use Rattle.ms_base.proofs.events.AskLemmas.{same_step}
 use Rattle.ms_base.proofs.events.WholeLemmas.{first_left}
 use Rattle.ms_base.proofs.events.SeenLemmas.{seen_held, seen_good}
+use Rattle.ms_base.proofs.events.StageAtLemmas.{nothing_left, mine_first, other_first, at, at_itself, is_not}
+use Rattle.ms_base.proofs.events.StageAtLemmas.{at_other}
 
 -- A machine of the serial order, from which the steps of the moments are a run.
 record IsSimulated (stage : ℕ → Stage) (old : Machine) (moments : List Moment) (end : Machine) : Type 0 where
@@ -42,48 +44,6 @@ record IsSimulated (stage : ℕ → Stage) (old : Machine) (moments : List Momen
   rises : AreNamed loaders
   shows : (name : ℕ) → Shows (stage name) (named loaders name) (named old.loaders name)
   run : Run (with_seen old loaders) (steps_of (serial moments)) (replies_of (serial moments)) end
-
--- Nothing is owed at the end.
-nothing_left : (name : ℕ) (stage : Stage) (o : Option LoaderState) → Left name stage [] → Shows stage o o
-nothing_left name idle o left = refl
-nothing_left name (turned_down spread) o left = refl
-nothing_left name (owes_block space block words start) o left = let e = left.parts_are in absurd (cc)
-nothing_left name (owes_refusal space block words refusal) o left = let e = left.parts_are in absurd (cc)
-nothing_left name (unloading loader) o left = let e = left.parts_are in absurd (cc)
-nothing_left name retracting o left = let e = left.2.parts_are in absurd (cc)
-
--- The events of a name after a moment.
-mine_first : (name : ℕ) (moment : Moment) (moments : List Moment) → loader_of_event moment.event ≡ Some name
-    → parts_by name (moment ∷ moments) ≡ part_of moment ∷ parts_by name moments
-mine_first name moment moments is =
-    ap (λ (b : Bool). map part_of (cond b (moment ∷ of_name) of_name)) (ap (is_name name) is ∙ eq-eqb name name refl)
-  where
-    of_name : List Moment
-    of_name = filter (λ (one : Moment). is_name name (loader_of_event one.event)) moments
-
-other_first : (name : ℕ) (moment : Moment) (moments : List Moment) → is_name name (loader_of_event moment.event) ≡ false
-    → parts_by name (moment ∷ moments) ≡ parts_by name moments
-other_first name moment moments is = ap (λ (b : Bool). map part_of (cond b (moment ∷ of_name) of_name)) is
-  where
-    of_name : List Moment
-    of_name = filter (λ (one : Moment). is_name name (loader_of_event one.event)) moments
-
--- A stage of one name.
-abbrev at : (ℕ → Stage) → ℕ → Stage → ℕ → Stage
-at stage name next other = cond (other == name) next (stage other)
-
-at_itself : (stage : ℕ → Stage) (name : ℕ) (next : Stage) → at stage name next name ≡ next
-at_itself stage name next = ap (λ (b : Bool). cond b next (stage name)) (eq-eqb name name refl)
-
-differs : (name other : ℕ) → (name ≡ other → ⊥) → (other == name) ≡ false
-differs name other apart = false_from_ne_true (other == name) (λ e. apart (sym (eqb-true other name e)))
-
-is_not : (name other : ℕ) → (name ≡ other → ⊥) → (name == other) ≡ false
-is_not name other apart = false_from_ne_true (name == other) (λ e. apart (eqb-true name other e))
-
-at_other : (stage : ℕ → Stage) (name : ℕ) (next : Stage) (other : ℕ) → (name ≡ other → ⊥)
-    → at stage name next other ≡ stage other
-at_other stage name next other apart = ap (λ (b : Bool). cond b next (stage other)) (differs name other apart)
 
 -- What is to be had of the moments after one, whatever the stages then.
 abbrev Later : Machine → List Moment → Machine → Type 0

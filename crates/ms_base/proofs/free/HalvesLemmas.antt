@@ -3,7 +3,7 @@
 use Rattle.std.proofs.Common.{◌≡◌, ◌≤◌, ◌<◌, ℕ, suc, ◌+◌, ◌-◌, ◌*◌, ◌/◌, ◌%◌, ◌^◌, sym, ap, ◌∙◌, inl, inr, arith}
 use Rattle.std.proofs.lemmas.Nat.{mul-le, pow-add, pow_pos, pow_below, mod-mul-add}
 use Rattle.std.proofs.lemmas.Bool.{cases_lt}
-use Rattle.std.proofs.Math.Nat.{add-mul, mul_assoc, mul-mod_left, add-mod_right}
+use Rattle.std.proofs.Math.Nat.{add-mul, mul_assoc, mul-mod_left, add-mod_right, pow-le-pow_right}
 use Rattle.ms_base.specs.Level.{size_of, highest_level}
 use Rattle.ms_base.specs.Part.{parent_start}
 use Rattle.ms_base.proofs.free.PartLemmas.{by_number, size_by_level}
@@ -13,9 +13,8 @@ pub size_some : (level : ℕ) → 1 ≤ size_of level
 size_some level = omega (arith, pow_pos (19 - level))
 
 -- A chunk of a greater level has no more words, and one of a strictly greater level fewer.
-pub size_falls : (l k : ℕ) → l ≤ k → k ≤ highest_level → size_of k ≤ size_of l
-size_falls l k h m =
-    omega (arith, size_by_level l k h m, mul-le 1 (size_of k) (2 ^ (k - l)) (size_of k) (pow_pos (k - l)) (omega arith))
+pub size_falls : (l k : ℕ) → l ≤ k → size_of k ≤ size_of l
+size_falls l k h = pow-le-pow_right {n = 2} (omega arith) {i = 19 - k} {j = 19 - l} (omega (arith, h))
 
 pub size_falls_strictly : (l k : ℕ) → l < k → k ≤ highest_level → size_of k < size_of l
 size_falls_strictly l k h m = omega (

@@ -5,9 +5,9 @@ use Rattle.std.specs.Prelude.{nat_le}
 use Rattle.std.specs.List.{count_by, range_with_len}
 use Rattle.std.proofs.lemmas.Bool.{cases_eq, cases_Bool, both_ways, leb-true, le-leb, false_from_ne_true}
 use Rattle.std.proofs.lemmas.List.Sums.{sum_by-cons, count_by-le-length}
-use Rattle.std.proofs.Math.Nat.{pow-le-pow_right}
 use Rattle.ms_base.specs.Level.{size_of, level_that_holds, highest_level}
 use Rattle.ms_base.specs.Laws.Level.{IsGreatest}
+use Rattle.ms_base.proofs.free.HalvesLemmas.{size_falls}
 use Rattle.ms_base.proofs.runs.PermutedLemmas.{one_if}
 
 -- A test that passes wherever it passes at the next number.
@@ -63,10 +63,7 @@ below_passes p down a (suc n) k h m = elim (cases_Bool (p a)) [
 
 -- A level's chunks hold what the next level's do.
 holds_down : (words : ℕ) → GoesDown (λ level. nat_le words (size_of level))
-holds_down words k e = le-leb words (size_of k) (omega (arith, leb-true words (size_of (k + 1)) e, falls k))
-  where
-    falls : (k : ℕ) → size_of (k + 1) ≤ size_of k
-    falls k = pow-le-pow_right (omega arith) (omega arith)
+holds_down words k e = le-leb words (size_of k) (omega (arith, leb-true words (size_of (k + 1)) e, size_falls k (k + 1) (omega arith)))
 
 -- Of the levels 0 to 12 exactly those up to the one that holds so many words do.
 pub level_is_greatest : (words : ℕ) → words ≤ size_of 0 → IsGreatest words

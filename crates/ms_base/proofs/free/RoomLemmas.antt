@@ -187,7 +187,7 @@ lowest_is_clear held slots part m listed h k = let free =
       placed = (k, multiple_of_smaller part.start part.level m h k free.placed.1);
       reserved = free.reserved;
       empty = clear_within held part.start part.level part.start m (omega arith)
-          (omega (arith, size_falls part.level m h k)) free.empty;
+          (omega (arith, size_falls part.level m h)) free.empty;
     }
 
 -- There is room for a level exactly where a part of it is clear.

@@ -3,21 +3,21 @@
 use Rattle.std.proofs.Common.{◌≡◌, ◌≤◌, ℕ, suc, ◌+◌, ◌-◌, ◌*◌, ◌/◌, Bool, true, false, not, ◌&&◌, ◌||◌, List, [], ◌∷◌}
 use Rattle.std.proofs.Common.{◌++◌, map, refl, sym, ap, ◌∙◌, inl, inr, arith}
 use Rattle.std.specs.Prelude.{◌==◌}
-use Rattle.std.specs.List.{All, AllByRecursion, count_by, list_any, list_all, flat_map}
+use Rattle.std.specs.List.{All, AllByRecursion, list_any, list_all, flat_map}
 use Rattle.std.specs.List.Sorted.{IsStrictlyIncreasing, IsStrictlySortedBy}
 use Rattle.std.specs.Ordering.{nat_cmp}
 use Rattle.std.specs.declared.cmp.Ordering.TheVariants.{Less}
 use Rattle.std.proofs.lemmas.Bool.{and_parts, or_parts, or_from, or_cases, or_left, or_right, false_from_ne_true}
-use Rattle.std.proofs.lemmas.Bool.{not-true, not_from_true, eqb-true, eq-eqb, ne_eqb, cases_eq}
+use Rattle.std.proofs.lemmas.Bool.{not_from_true, eqb-true, eq-eqb, ne_eqb, cases_eq}
 use Rattle.std.proofs.lemmas.Bool.Decides.{nat_tests}
 use Rattle.std.proofs.lemmas.List.{map-append}
 use Rattle.std.proofs.lemmas.List.Elements.{All-head, All-tail}
-use Rattle.std.proofs.lemmas.List.Sums.{sum_by-cons, sum_by-append}
+use Rattle.std.proofs.lemmas.List.Sums.{sum_by-append}
 use Rattle.std.proofs.lemmas.Map.Keys.{sorted_from_strictly_increasing}
 use Rattle.ms_base.specs.declared.policy.Policy.{Policy}
 use Rattle.ms_base.specs.declared.span.Chunk.{Chunk}
 use Rattle.ms_base.specs.declared.span.Span.{Span}
-use Rattle.ms_base.specs.Interval.{meet, meets_any, are_apart, lies_in}
+use Rattle.ms_base.specs.Interval.{meet, lies_in}
 use Rattle.ms_base.specs.Level.{size_of, highest_level}
 use Rattle.ms_base.specs.Part.{IsPart, slot_of, is_reserved, node_words}
 use Rattle.ms_base.specs.Held.{AreHeld, words_of, meets_chunk}
@@ -30,45 +30,7 @@ use Rattle.ms_base.proofs.free.LargestLemmas.{inside_bounds}
 use Rattle.ms_base.proofs.granules.GranuleLemmas.{ends_in_node}
 use Rattle.ms_base.proofs.granules.FreeGranuleLemmas.{meeting_lies_in}
 use Rattle.ms_base.proofs.runs.PermutedLemmas.{one_if}
-
--- The word lies in the run, and in one of the runs.
-abbrev has_word : ℕ → ℕ × ℕ → Bool
-has_word word run = lies_in (word, 1) run
-
--- How many of the runs have the word.
-abbrev times : ℕ → List (ℕ × ℕ) → ℕ
-times word runs = count_by (has_word word) runs
-
-times_with : (word : ℕ) (run : ℕ × ℕ) (runs : List (ℕ × ℕ))
-    → times word (run ∷ runs) ≡ one_if (has_word word run) + times word runs
-times_with word run runs = sum_by-cons (λ r. one_if (has_word word r)) run runs
-
--- Runs that are apart have a word once, or not at all.
-apart_from_all : (word : ℕ) (run : ℕ × ℕ) (runs : List (ℕ × ℕ)) → has_word word run ≡ true
-    → meets_any run runs ≡ false → list_any (has_word word) runs ≡ false
-apart_from_all word run [] here apart = refl
-apart_from_all word run (other ∷ runs) here apart = let both =
-    or_parts (meet run.0 run.1 other.0 other.1) (meets_any run runs) apart in
-    or_from (has_word word other) (list_any (has_word word) runs)
-    (not_both word run.0 run.1 other.0 other.1 here both.0) (apart_from_all word run runs here both.1)
-  where
-    not_both : (w a m b n : ℕ) → lies_in (w, 1) (a, m) ≡ true → meet a m b n ≡ false → lies_in (w, 1) (b, n) ≡ false
-    not_both w a m b n h e = grind (arith, nat_tests)
-
-once_where_apart : (word : ℕ) (runs : List (ℕ × ℕ)) → are_apart runs ≡ true
-    → times word runs ≡ one_if (list_any (has_word word) runs)
-once_where_apart word [] apart = refl
-once_where_apart word (run ∷ runs) apart = let both = and_parts (not (meets_any run runs)) (are_apart runs) apart in
-    times_with word run runs
-    ∙ elim (has_word word run) as (λ b. has_word word run ≡ b
-    → one_if b + times word runs ≡ one_if (b || list_any (has_word word) runs)) [
-      | true ↦ λ here. omega (
-        arith,
-        once_where_apart word runs both.1,
-        ap one_if (apart_from_all word run runs here (not-true (meets_any run runs) both.0)),
-      )
-      | false ↦ λ past. omega (arith, once_where_apart word runs both.1)
-    ] refl
+use Rattle.ms_base.proofs.granules.TimesLemmas.{has_word, times, once_where_apart}
 
 -- The word lies in a held chunk.
 abbrev is_held : ℕ → List Chunk → Bool

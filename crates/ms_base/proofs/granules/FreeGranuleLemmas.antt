@@ -181,5 +181,5 @@ committed_where_small policy held slots part number of_level good free meets =
       | inr large ↦ large_is_uncommitted policy held slots part number of_level.level of_level.is of_level.below good free
           meets large
           ∙ sym (le-ltb (size_of part.level) (granule_of policy)
-          (omega (arith, size_falls part.level of_level.level large of_level.below, of_level.is)))
+          (omega (arith, size_falls part.level of_level.level large, of_level.is)))
     ]

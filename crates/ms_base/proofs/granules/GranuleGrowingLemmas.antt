@@ -31,8 +31,9 @@ use Rattle.ms_base.proofs.granules.PolicyLemmas.{granule_some}
 use Rattle.ms_base.proofs.granules.GranuleLemmas.{committed_where_front}
 use Rattle.ms_base.proofs.granules.FreeGranuleLemmas.{meets_bounds, bounds_meet}
 use Rattle.ms_base.proofs.granules.FrontLemmas.{front_reaches, has_front_for}
-use Rattle.ms_base.proofs.granules.NeedLemmas.{same_chunk}
-use Rattle.ms_base.proofs.granules.GranuleCountLemmas.{meets_front, meets_between, is_between, committed_in_slots}
+use Rattle.ms_base.proofs.granules.TakingLimitLemmas.{same_chunk}
+use Rattle.ms_base.proofs.granules.GranuleCountLemmas.{meets_front, committed_in_slots}
+use Rattle.ms_base.proofs.granules.BetweenLemmas.{meets_between, is_between}
 use Rattle.ms_base.proofs.granules.GranuleCountLemmas.{count_with_front}
 
 -- A test that the new chunk passes where the old one did.

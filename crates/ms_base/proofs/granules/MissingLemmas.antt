@@ -1,14 +1,11 @@
 -- Where no free part is large and committed enough, all granules that the picked chunk's front
 -- meets are missing, under the policies balanced and aggressive; so one rule decides for all
 -- policies.
-use Rattle.std.proofs.Common.{◌≡◌, ◌≤◌, ◌<◌, ℕ, zero, suc, ◌+◌, ◌-◌, ◌*◌, ◌/◌, Bool, true, false, cond, not, ◌&&◌, ◌||◌}
-use Rattle.std.proofs.Common.{List, [], ◌∷◌, length, refl, sym, ap, ◌∙◌, arith, inl, inr}
-use Rattle.std.specs.Prelude.{◌==◌, ◌⊎◌, nat_lt, nat_le, if◌then◌else◌}
-use Rattle.std.specs.Ordering.{nat_cmp}
-use Rattle.std.specs.Option.{unwrap_or}
-use Rattle.std.specs.List.{list_any, find, filter, range_with_len, Contains}
-use Rattle.std.specs.List.Sorted.{IsStrictlySortedBy}
-use Rattle.std.proofs.lemmas.Bool.{cases_lt, cases_eq, and_parts, and_from, or_cases, both_ways, false_from_ne_true}
+use Rattle.std.proofs.Common.{◌≡◌, ◌≤◌, ◌<◌, ℕ, zero, suc, ◌+◌, ◌-◌, ◌*◌, ◌/◌, Bool, true, false, cond, not, ◌&&◌}
+use Rattle.std.proofs.Common.{◌∷◌, length, refl, sym, ap, ◌∙◌, arith, inl, inr}
+use Rattle.std.specs.Prelude.{◌==◌, nat_lt, nat_le, if◌then◌else◌}
+use Rattle.std.specs.List.{filter, range_with_len, Contains}
+use Rattle.std.proofs.lemmas.Bool.{cases_lt, and_parts, and_from, both_ways, false_from_ne_true}
 use Rattle.std.proofs.lemmas.Bool.{eqb-true, le-leb}
 use Rattle.std.proofs.lemmas.Bool.Decides.{nat_tests}
 use Rattle.std.proofs.lemmas.List.Elements.{All-contains}
@@ -19,7 +16,7 @@ use Rattle.ms_base.specs.declared.span.Chunk.{Chunk}
 use Rattle.ms_base.specs.Policy.{keeps}
 use Rattle.ms_base.specs.Interval.{meet}
 use Rattle.ms_base.specs.Level.{size_of, highest_level}
-use Rattle.ms_base.specs.Part.{IsPart, node_words, slot_of, is_reserved}
+use Rattle.ms_base.specs.Part.{node_words, slot_of, is_reserved}
 use Rattle.ms_base.specs.Front.{granules_for, HasFront}
 use Rattle.ms_base.specs.FreeParts.{IsFreePart, free_parts}
 use Rattle.ms_base.specs.State.{PoolState}
@@ -28,103 +25,17 @@ use Rattle.ms_base.specs.PoolSteps.Pick.{lowest_unreserved}
 use Rattle.ms_base.specs.PoolSteps.Causes.{committed_count, has_committed_room, granules_missing, granules_needed, needs_none}
 use Rattle.ms_base.specs.PoolSteps.Causes.{meets_reserve_limit, meets_commit_limit}
 use Rattle.ms_base.specs.Good.{IsSoundPool}
-use Rattle.ms_base.proofs.granules.PolicyLemmas.{granules_make_nodes, granule_some}
+use Rattle.ms_base.proofs.granules.PolicyLemmas.{granule_some}
 use Rattle.ms_base.proofs.free.HalvesLemmas.{size_falls}
 use Rattle.ms_base.proofs.free.PickLemmas.{found_is_free_or_new, picked_serves}
 use Rattle.ms_base.proofs.free.RoomLemmas.{listed_is_free}
-use Rattle.ms_base.proofs.granules.GranuleLemmas.{in_node, in_range, committed_are_counted}
 use Rattle.ms_base.proofs.granules.FreeGranuleLemmas.{meets_bounds, bounds_meet}
 use Rattle.ms_base.proofs.granules.FrontLemmas.{has_front_for}
 use Rattle.ms_base.proofs.granules.CommittedRoomLemmas.{committed_by_size, enough_by_size}
-use Rattle.ms_base.proofs.granules.GranuleCountLemmas.{slot_is_there, meets_between, is_between, not_there}
-use Rattle.ms_base.proofs.granules.NeedLemmas.{quotient_is, Covers, chunk_covers, nothing_missing, picked_is_part}
-
--- Rising numbers that have each of a range are as many at least.
-as_many : (xs : List ℕ) (a n : ℕ) → IsStrictlySortedBy nat_cmp xs
-    → ((k : ℕ) → a ≤ k → k < a + n → is_reserved xs k ≡ true) → n ≤ length xs
-unfolding IsStrictlySortedBy
-as_many [] a zero sorted each = omega arith
-as_many [] a (suc n) sorted each = let wrong = each a (omega arith) (omega arith) in absurd (cc)
-as_many (x ∷ xs) a zero sorted each = omega arith
-as_many (x ∷ xs) a (suc n) sorted each = elim (cases_lt x a) [
-  | inl below ↦ omega (arith, as_many xs a (suc n) sorted.1 (λ k h m. past k (omega arith) (each k h m)))
-  | inr more ↦ elim (cases_eq x a) [
-    | inl same ↦
-        omega (
-          arith,
-          as_many xs (a + 1) n sorted.1 (λ k h m. past k (omega (arith, same, h)) (each k (omega arith) (omega arith))),
-        )
-    | inr other ↦
-        absurd (both_ways (is_reserved (x ∷ xs) a) (none (omega (arith, more, other)))
-        (each a (omega arith) (omega arith)))
-  ]
-]
-  where
-    past : (k : ℕ) → x < k → is_reserved (x ∷ xs) k ≡ true → is_reserved xs k ≡ true
-    past k h there = elim (or_cases (x == k) (is_reserved xs k) there) [
-      | inl here ↦ let e = eqb-true x k here in absurd (omega (arith, e, h))
-      | inr later ↦ later
-    ]
-
-    none : a < x → is_reserved (x ∷ xs) a ≡ false
-    none h = ap (λ b. b || is_reserved xs a) (unlike x a h) ∙ not_there x xs a h sorted.0
-      where
-        unlike : (x a : ℕ) → a < x → (x == a) ≡ false
-        unlike x a h = grind (arith, h)
-
--- What is found passes the test, or nothing does.
-found_passes : (p : ℕ → Bool) (xs : List ℕ) (other : ℕ)
-    → (p (unwrap_or (find p xs) other) ≡ true) ⊎ ((k : ℕ) → list_any (λ (x : ℕ). x == k) xs ≡ true → p k ≡ false)
-found_passes p [] other = inr (λ k there. absurd (cc))
-found_passes p (x ∷ xs) other = go (p x) refl (found_passes p xs other)
-  where
-    go : (b : Bool) → p x ≡ b
-        → ((p (unwrap_or (find p xs) other) ≡ true) ⊎ ((k : ℕ) → list_any (λ (y : ℕ). y == k) xs ≡ true → p k ≡ false))
-        → (p (unwrap_or (find p (x ∷ xs)) other) ≡ true)
-        ⊎ ((k : ℕ) → list_any (λ (y : ℕ). y == k) (x ∷ xs) ≡ true → p k ≡ false)
-    go true e rest = inl (rw e e)
-    go false e (inl found) = inl (rw e found)
-    go false e (inr none) = inr (λ k there. elim (or_cases (x == k) (list_any (λ (y : ℕ). y == k) xs) there) [
-      | inl here ↦ ap p (sym (eqb-true x k here)) ∙ e
-      | inr later ↦ none k later
-    ])
-
--- The lowest slot that isn't reserved is not.
-pub lowest_is_not_reserved : (slots : List ℕ) → IsStrictlySortedBy nat_cmp slots
-    → is_reserved slots (lowest_unreserved slots) ≡ false
-lowest_is_not_reserved slots sorted = elim (found_passes free (range_with_len 0 (length slots + 1)) 0) [
-  | inl found ↦ not_not (is_reserved slots (lowest_unreserved slots)) found
-  | inr none ↦ let more =
-      as_many slots 0 (length slots + 1) sorted
-      (λ k h m. not_free (is_reserved slots k) (none k (in_range 0 (length slots + 1) k h m))) in
-      absurd (omega (arith, more))
-]
-  where
-    free : ℕ → Bool
-    free slot = not (is_reserved slots slot)
-
-    not_not : (b : Bool) → not b ≡ true → b ≡ false
-    not_not true e = absurd (cc)
-    not_not false e = refl
-
-    not_free : (b : Bool) → not b ≡ false → b ≡ true
-    not_free true e = refl
-    not_free false e = absurd (cc)
-
--- The granules that the front of a picked chunk meets are missing.
-none_there : (pool : PoolState) (chunk : Chunk) → IsSoundPool pool → IsPart chunk.start chunk.level
-    → chunk.front ≤ size_of chunk.level
-    → is_reserved pool.slots (slot_of chunk.start) ≡ false → (k : ℕ)
-    → meet chunk.start chunk.front (k * granule_in pool) (granule_in pool) ≡ true → has_committed pool k ≡ false
-none_there pool chunk sound placed within fresh k meets = false_from_ne_true (has_committed pool k) (λ there.
-    let own =
-    in_node granule (node_words / granule) chunk k (granules_make_nodes pool.limits.policy) placed within meets in
-    both_ways (is_reserved pool.slots (slot_of chunk.start)) fresh
-    (slot_is_there granule pool.slots (slot_of chunk.start) k ((committed_are_counted pool k sound).reserved there)
-    own.0 own.1))
-  where
-    granule : ℕ
-    granule = granule_in pool
+use Rattle.ms_base.proofs.granules.BetweenLemmas.{meets_between, is_between}
+use Rattle.ms_base.proofs.granules.NeedLemmas.{quotient_is, Covers, chunk_covers, nothing_missing}
+use Rattle.ms_base.proofs.granules.EnoughLemmas.{picked_is_part}
+use Rattle.ms_base.proofs.granules.UnreservedLemmas.{lowest_is_not_reserved, none_there}
 
 not_enough : (pool : PoolState) (m words : ℕ) (part : Span) → has_committed_room pool m words ≡ false
     → Contains (free_parts pool.held pool.slots) part → part.level ≤ m
@@ -138,15 +49,14 @@ not_enough pool m words part none listed serves = false_from_ne_true (is_committ
 
 in_free_part : (pool : PoolState) (m words : ℕ) (part : Span) (start front : ℕ) → IsSoundPool pool
     → keeps pool.limits.policy ≡ false → has_committed_room pool m words ≡ false
-    → Contains (free_parts pool.held pool.slots) part → part.level ≤ m → m ≤ highest_level
-    → 1 ≤ words → words ≤ size_of m
+    → Contains (free_parts pool.held pool.slots) part → part.level ≤ m → 1 ≤ words → words ≤ size_of m
     → start ≡ part.start → front ≤ size_of part.level
     → (k : ℕ) → meet start front (k * granule_in pool) (granule_in pool) ≡ true → has_committed pool k ≡ false
-in_free_part pool m words part start front sound reclaims none listed serves h some fits same within k meets =
+in_free_part pool m words part start front sound reclaims none listed serves some fits same within k meets =
     elim (cases_lt (size_of part.level) (granule_in pool)) [
       | inl small ↦
           absurd (both_ways (is_committed_enough pool words part) (not_enough pool m words part none listed serves)
-          ((enough_by_size pool part words sound free some (omega (arith, fits, size_falls part.level m serves h))).small
+          ((enough_by_size pool part words sound free some (omega (arith, fits, size_falls part.level m serves))).small
           small))
       | inr large ↦ (committed_by_size pool part k sound free wider).large reclaims large
     ]
@@ -160,11 +70,11 @@ in_free_part pool m words part start front sound reclaims none listed serves h s
         bounds_meet part.start (size_of part.level) (k * granule_in pool) (granule_in pool)
         (omega (arith, bounds.0, same)) (omega (arith, bounds.1, same, within))
 
-front_of_picked : (pool : PoolState) (p m words : ℕ) → p ≤ m → m ≤ highest_level → 1 ≤ words → words ≤ size_of m
+front_of_picked : (pool : PoolState) (p m words : ℕ) → p ≤ m → 1 ≤ words → words ≤ size_of m
     → HasFront pool.limits.policy (chunk_picked pool p m words)
-front_of_picked pool p m words h k some fits =
+front_of_picked pool p m words h some fits =
     has_front_for pool.limits.policy (picked pool p m words).start (picked pool p m words).level words some
-    (omega (arith, fits, size_falls (picked pool p m words).level m (picked_serves pool p m words h).1 k))
+    (omega (arith, fits, size_falls (picked pool p m words).level m (picked_serves pool p m words h).1))
 
 pub all_missing : (pool : PoolState) (p m words : ℕ) → IsSoundPool pool → keeps pool.limits.policy ≡ false
     → has_committed_room pool m words ≡ false
@@ -182,12 +92,11 @@ all_missing pool p m words sound reclaims none h k some fits number meets =
           let start : some_part.1.start ≡ part.start = eqb-true some_part.1.start part.start both.0 in
           let level : some_part.1.level ≡ part.level = eqb-true some_part.1.level part.level both.1 in
           in_free_part pool m words some_part.1 chunk.start chunk.front sound reclaims none
-          (some_part.0, some_part.2, some_part.3) (omega (arith, level, found.serves)) k some fits (sym start)
+          (some_part.0, some_part.2, some_part.3) (omega (arith, level, found.serves)) some fits (sym start)
           (omega (
             arith,
             front.within,
-            size_falls some_part.1.level chunk.level (omega (arith, level))
-                (picked_is_part pool p m words h k).0,
+            size_falls some_part.1.level chunk.level (omega (arith, level)),
           )) number meets
       | inr fresh ↦ none_there pool chunk sound (picked_is_part pool p m words h k) front.within
           (ap (λ (one : Span). is_reserved pool.slots (slot_of one.start)) fresh.1
@@ -202,7 +111,7 @@ all_missing pool p m words sound reclaims none h k some fits number meets =
     chunk = chunk_picked pool p m words
 
     front : HasFront pool.limits.policy chunk
-    front = front_of_picked pool p m words h k some fits
+    front = front_of_picked pool p m words h some fits
 
     slot_of_start : (n : ℕ) → slot_of (n * node_words) ≡ n
     slot_of_start n = quotient_is (n * node_words) n node_words (omega arith) (omega arith) (omega arith)
@@ -235,7 +144,7 @@ need_is_missing pool p m words sound reclaims none h k some fits =
     chunk = chunk_picked pool p m words
 
     front : HasFront pool.limits.policy chunk
-    front = front_of_picked pool p m words h k some fits
+    front = front_of_picked pool p m words h some fits
 
     covers : Covers granule chunk.start chunk.front words
     covers = chunk_covers pool p m words reclaims h k some fits

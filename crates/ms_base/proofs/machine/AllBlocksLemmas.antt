@@ -20,7 +20,9 @@ use Rattle.ms_base.specs.Live.{runs_in}
 use Rattle.ms_base.specs.Good.{topped, is_in_use, IsSoundLoader, IsGood}
 use Rattle.ms_base.specs.Laws.Block.{all_blocks, IsPacked}
 use Rattle.ms_base.proofs.runs.ApartLemmas.{later-apart}
-use Rattle.ms_base.proofs.machine.BackedLemmas.{run_in_space, in_use_in_front, apart_in_parts, some_front}
+use Rattle.ms_base.proofs.machine.BackedLemmas.{in_use_in_front}
+use Rattle.ms_base.proofs.machine.BlockSpaceLemmas.{run_in_space}
+use Rattle.ms_base.proofs.machine.BlocksApartLemmas.{apart_in_parts, some_front}
 
 -- A loader's live and free blocks in a space, and the chunks of several loaders there.
 abbrev blocks_of : Space → LoaderState → List (ℕ × ℕ)

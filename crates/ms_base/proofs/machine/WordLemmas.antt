@@ -1,7 +1,7 @@
 -- A word keeps its value through each request that leaves it, so a read is answered by the last
 -- value written.
-use Rattle.std.proofs.Common.{◌≡◌, ℕ, zero, suc, true, false, not, ◌&&◌, Some, None, List, [], ◌∷◌, ◌++◌, replicate}
-use Rattle.std.proofs.Common.{refl, sym, ap, ◌∙◌, subst, arith, inl, inr}
+use Rattle.std.proofs.Common.{◌≡◌, ℕ, true, false, not, ◌&&◌, Some, None, List, [], ◌∷◌, ◌++◌}
+use Rattle.std.proofs.Common.{sym, ap, ◌∙◌, subst, inl, inr}
 use Rattle.std.specs.Prelude.{◌==◌, slice_get, slice_set}
 use Rattle.std.proofs.lemmas.Bool.{and_parts, not-true, cases_eq}
 use Rattle.ms_base.specs.declared.kind.Space.{Space}
@@ -24,6 +24,8 @@ use Rattle.ms_base.specs.Request.{alloc_in}
 use Rattle.ms_base.specs.Laws.Word.{changes_word, leave_word, ReadsAfter}
 use Rattle.ms_base.proofs.entries.LookupLemmas.{named_changed_same, named_changed_other, named_new_same}
 use Rattle.ms_base.proofs.entries.LookupLemmas.{named_new_other, named_without_other}
+use Rattle.ms_base.proofs.machine.ContentsLemmas.{get_set_same, get_set_other, get_zero, all_same, same_one}
+use Rattle.ms_base.proofs.machine.ContentsLemmas.{both_same}
 
 -- A word of a block that is there can be read as this value alone.
 pub record HoldsWord (loaders : List (ℕ × LoaderState)) (name block index value : ℕ) : Type 0 where
@@ -32,37 +34,6 @@ pub record HoldsWord (loaders : List (ℕ × LoaderState)) (name block index val
   pub has : named loaders name ≡ Some loader
   pub block_is : named loader.blocks block ≡ Some found
   pub word : (read : ℕ) → slice_get found.contents index ≡ Some read → read ≡ value
-
--- A word that was set, and one beside it.
-get_set_same : (xs : List ℕ) (i v w : ℕ) → slice_get (slice_set xs i v) i ≡ Some w → w ≡ v
-get_set_same [] i v w e = absurd (cc)
-get_set_same (x ∷ xs) zero v w e = cc
-get_set_same (x ∷ xs) (suc i) v w e = get_set_same xs i v w e
-
-get_set_other : (xs : List ℕ) (i j v : ℕ) → (i ≡ j → ⊥) → slice_get (slice_set xs i v) j ≡ slice_get xs j
-get_set_other [] i j v differ = refl
-get_set_other (x ∷ xs) zero zero v differ = absurd (differ refl)
-get_set_other (x ∷ xs) zero (suc j) v differ = refl
-get_set_other (x ∷ xs) (suc i) zero v differ = refl
-get_set_other (x ∷ xs) (suc i) (suc j) v differ = get_set_other xs i j v (λ e. differ (ap suc e))
-
-get_zero : (n i w : ℕ) → slice_get (replicate n 0) i ≡ Some w → w ≡ 0
-get_zero zero i w e = absurd (cc)
-get_zero (suc n) zero w e = cc
-get_zero (suc n) (suc i) w e = get_zero n i w e
-
--- The names that a request has are not those of the word, where it leaves the word.
-all_same : (a b c : ℕ) → ((a == a) && (b == b) && (c == c)) ≡ true
-all_same a b c = rw (same a, same b, same c) refl
-  where
-    same : (n : ℕ) → (n == n) ≡ true
-    same n = grind arith
-
-same_one : (a : ℕ) → (a == a) ≡ true
-same_one a = grind arith
-
-both_same : (a b : ℕ) → ((a == a) && (b == b)) ≡ true
-both_same a b = rw (same_one a, same_one b) refl
 
 -- A change of another loader.
 beside : (loaders after : List (ℕ × LoaderState)) (name block index value : ℕ) → named after name ≡ named loaders name

@@ -6,6 +6,7 @@ use Rattle.std.proofs.lemmas.Nat.{pow-add, div-add-mod', div_below, le-div}
 use Rattle.std.proofs.Math.Nat.{div-div-eq-div-mul, mod-lt, mul-mod_left, div-eq_of_eq-mul_left, mul-le-mul_right, pow-le-pow_right, le_of_mul-le-mul_right}
 use Rattle.ms_base.specs.declared.span.Span.{Span}
 use Rattle.ms_base.specs.Level.{size_of, highest_level}
+use Rattle.ms_base.proofs.free.HalvesLemmas.{size_falls}
 use Rattle.ms_buddy.specs.Counts.{holder_of, number_of}
 use Rattle.ms_buddy.specs.Leaves.{span_at}
 use Rattle.ms_buddy.specs.Tree.{IsPlace}
@@ -58,10 +59,8 @@ number_is level start = refl
 pub number_fits : (level start : ℕ) → level ≤ highest_level → start < 524288
     → (524288 + start) / 2 ^ (19 - level) < 8192
 number_fits level start h below =
-    div_below (524288 + start) (size_of level) 8192 (size_of-some level) (omega (arith, below, large))
-  where
-    large : 128 ≤ size_of level
-    large = pow-le-pow_right {n = 2} (omega arith) {i = 7} {j = 19 - level} (omega arith)
+    div_below (524288 + start) (size_of level) 8192 (size_of-some level)
+    (omega (arith, below, size_falls level highest_level h))
 
 -- The level below the one above is the level.
 pub level_back : (level : ℕ) → 0 < level → level - 1 + 1 ≡ level

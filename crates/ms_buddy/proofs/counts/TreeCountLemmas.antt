@@ -24,7 +24,7 @@ use Rattle.ms_buddy.proofs.bits.FreeNumberLemmas.{IsSpanPlace, free_places, root
 -- A tree has at most 4096 free leaves, since each has 128 words or more.
 few_free : (level start : ℕ) (node : Node) → level ≤ highest_level → IsTree level node
     → length (free_in level start node) * 128 ≤ size_of level
-few_free level start Free h tree = omega (arith, size_falls level highest_level h (omega arith))
+few_free level start Free h tree = omega (arith, size_falls level highest_level h)
 few_free level start (Lent owner front) h tree = omega arith
 few_free level start (Split lower upper) h tree =
     omega (

@@ -27,8 +27,8 @@ use Rattle.ms_loaders.proofs.MappedLemmas.{found-mapped, missing-mapped}
 use Rattle.ms_loaders.proofs.calls.NamedRunLemmas.{blocks_stay, made_blocks, runs_here, runs_joined, runs_there}
 use Rattle.ms_loaders.proofs.calls.ViewLemmas.{arena_in, books_of, is_arena, words_at}
 use Rattle.ms_loaders.proofs.calls.LoaderSpaceLemmas.{placed_in_space}
-use Rattle.ms_loaders.proofs.calls.LoaderLemmas.{with_arena_at, replaced, changed_view, same_arena, words_here, words_now}
-use Rattle.ms_loaders.proofs.calls.LoaderLemmas.{words_there}
+use Rattle.ms_loaders.proofs.calls.ReplacedLemmas.{with_arena_at, replaced, changed_view, same_arena, words_here, words_now}
+use Rattle.ms_loaders.proofs.calls.ReplacedLemmas.{words_there}
 
 -- Why a name is not entered is why no arena is asked.
 pub name_is_refused : (a : Inside) (name words : ℕ) (refusal : Refusal)
@@ -97,7 +97,7 @@ module _ (space : Space) (a : Inside) (its : IsLoader a) (name : ℕ) (arena : R
           (is_arena a its space).holds.sound gains.awaits
 
       some : 0 < block.words
-      some = omega (arith, (gains.awaits (named_runs space a.names.entries) (is_arena a its space).holds.sound).long)
+      some = omega (arith, (gains.awaits.each (named_runs space a.names.entries) (is_arena a its space).holds.sound).long)
 
       loader : Inside
       loader = with_arena_at space a arena names

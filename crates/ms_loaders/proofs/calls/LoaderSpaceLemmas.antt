@@ -60,7 +60,7 @@ in_use_in_space space (c ∷ chunks) (t ∷ tops) run some parts slots fronts wi
 pub placed_in_space : (space : Space) (old new : ArenaState) (start n : ℕ) (live : List (ℕ × ℕ))
     → AreChunks space new.chunks → IsSound old live → AwaitsBlock old new start n → is_in space start ≡ true
 placed_in_space space old new start n live chunks sound awaits =
-    let here : Awaits new live (start, n) = awaits live sound in
+    let here : Awaits new live (start, n) = awaits.each live sound in
     in_use_in_space space new.chunks new.tops (start, n) (omega (arith, here.long))
     (recursion_from_All _ new.chunks chunks.parts) (recursion_from_All _ new.chunks chunks.inside)
     (recursion_from_All _ new.chunks chunks.fronts) here.sound.tops here.used

@@ -19,7 +19,8 @@ use Rattle.ms_base.specs.Transition.{zeroed}
 use Rattle.ms_base.proofs.arena.BlockLemmas.{in_its_space, not_in_other}
 use Rattle.ms_arena.specs.Raw.{contents_at}
 use Rattle.ms_arena.specs.Words.{WordsView, Opens, Writes, value_at}
-use Rattle.ms_arena.proofs.HoldLemmas.{IsClear, clear_words, contents_long, contents_set, contents_stay, contents_zero}
+use Rattle.ms_arena.proofs.HoldLemmas.{IsClear, clear_words}
+use Rattle.ms_arena.proofs.ContentsLemmas.{contents_long, contents_set, contents_stay, contents_zero}
 use Rattle.ms_loaders.specs.LoaderInside.{WordsBy, live_at, blocks_of, named_runs}
 use Rattle.ms_loaders.proofs.MappedLemmas.{mapped-agree, new-mapped, changed_where, values-mapped}
 

@@ -21,7 +21,8 @@ use Rattle.ms_loaders.specs.Loader.{LoaderView, account_in, owner_in, with_state
 use Rattle.ms_loaders.specs.System.{states_of, owners_of, machine_of, AreTogether}
 use Rattle.ms_loaders.specs.CallEvents.{with_chunks}
 use Rattle.ms_loaders.proofs.sums.FitLemmas.{HasOwner, fits, recommitted_machine}
-use Rattle.ms_loaders.proofs.steps.ServedLemmas.{KeepsOther, own_sound, together_still}
+use Rattle.ms_loaders.proofs.steps.ServedLemmas.{KeepsOther}
+use Rattle.ms_loaders.proofs.steps.StillTogetherLemmas.{own_sound, together_still}
 use Rattle.ms_loaders.proofs.steps.CallLemmas.{same_loaders}
 
 -- The account has the chunks, and the loader's other arena stays.

@@ -24,13 +24,13 @@ use Rattle.ms_pool.specs.Lending.{span_of}
 use Rattle.ms_pool.specs.Ledger.{Loan, Ledger, Serves, held_in, state_in, with_grown}
 use Rattle.ms_pool.specs.Calls.{GrewFrom, Grew}
 use Rattle.ms_pool.proofs.ledger.LoanAtLemmas.{same_from_start, owners_replaced}
-use Rattle.ms_pool.proofs.ledger.GrowLemmas.{GrownWell, grown_well}
+use Rattle.ms_pool.proofs.ledger.GrownAccountLemmas.{GrownWell, grown_well}
 use Rattle.ms_pool.proofs.ledger.GrewLemmas.{grow_refused_raises, grew_keeps}
 use Rattle.ms_loaders.specs.Loader.{LoaderView, account_in}
 use Rattle.ms_loaders.specs.System.{states_of, owners_of, machine_of, AreTogether}
 use Rattle.ms_loaders.specs.CallEvents.{IsEvent, IsThere, IsGrowCall, IsAnswered, with_chunks}
 use Rattle.ms_loaders.proofs.sums.FitLemmas.{fits, machine_is_good}
-use Rattle.ms_loaders.proofs.steps.ServedLemmas.{own_sound, own_served}
+use Rattle.ms_loaders.proofs.steps.StillTogetherLemmas.{own_sound, own_served}
 use Rattle.ms_loaders.proofs.steps.StepLemmas.{has_loader, machine_with}
 use Rattle.ms_loaders.proofs.events.TalliedLemmas.{together_tallied}
 use Rattle.ms_loaders.proofs.events.ChangedLemmas.{LeavesChanged, same_with, together_changed, machine_follows}

@@ -39,7 +39,8 @@ use Rattle.ms_loaders.specs.CallEvents.{IsEvent, IsThere, IsTakeCall, IsAnswered
 use Rattle.ms_loaders.proofs.calls.LoaderSpaceLemmas.{chunk_in_space}
 use Rattle.ms_loaders.proofs.sums.FitLemmas.{HasOwner, fits, machine_is_good}
 use Rattle.ms_loaders.proofs.steps.AddableLemmas.{taking_is_addable}
-use Rattle.ms_loaders.proofs.steps.ServedLemmas.{own_sound, own_served, own_is_among}
+use Rattle.ms_loaders.proofs.steps.ServedLemmas.{own_is_among}
+use Rattle.ms_loaders.proofs.steps.StillTogetherLemmas.{own_sound, own_served}
 use Rattle.ms_loaders.proofs.steps.StepLemmas.{has_loader, machine_with}
 use Rattle.ms_loaders.proofs.events.TalliedLemmas.{together_tallied}
 use Rattle.ms_loaders.proofs.events.ChangedLemmas.{LeavesChanged, same_with, together_changed, machine_follows}

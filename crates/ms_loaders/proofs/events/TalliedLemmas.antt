@@ -8,7 +8,7 @@ use Rattle.ms_pool.specs.Ledger.{Ledger, IsSoundLedger, state_in}
 use Rattle.ms_pool.specs.Calls.{tallied}
 use Rattle.ms_loaders.specs.Loader.{LoaderView}
 use Rattle.ms_loaders.specs.System.{AreTogether}
-use Rattle.ms_loaders.proofs.steps.CloseLemmas.{together_alike}
+use Rattle.ms_loaders.proofs.steps.PurgeStepLemmas.{together_alike}
 
 -- The ledger is sound still.
 sound_tallied : (old : Ledger) (tallies : Tallies) → IsSoundLedger old → IsSoundLedger (tallied old tallies)

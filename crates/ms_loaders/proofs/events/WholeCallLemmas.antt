@@ -20,7 +20,7 @@ use Rattle.ms_loaders.specs.System.{states_of, machine_of, AreTogether}
 use Rattle.ms_loaders.specs.CallEvents.{IsEvent, IsCloseCall}
 use Rattle.ms_loaders.proofs.sums.TotalsLemmas.{pool_tells}
 use Rattle.ms_loaders.proofs.steps.StepLemmas.{has_loader}
-use Rattle.ms_loaders.proofs.steps.CloseLemmas.{together_purged, machine_purged_is}
+use Rattle.ms_loaders.proofs.steps.PurgeStepLemmas.{together_purged, machine_purged_is}
 use Rattle.ms_loaders.proofs.steps.UnloadLemmas.{together_unloaded, is_unloaded}
 
 -- Nodes are purged.

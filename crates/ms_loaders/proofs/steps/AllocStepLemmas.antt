@@ -23,7 +23,7 @@ use Rattle.ms_pool.specs.Source.{LeavesRest}
 use Rattle.ms_pool.proofs.ledger.LedgerOpenLemmas.{tallied_serves}
 use Rattle.ms_pool.proofs.ledger.KeepsLemmas.{Keeps, keeps_where_tallied, serves_where_tallied, keeps_rest}
 use Rattle.ms_pool.proofs.ledger.LoanAtLemmas.{contains_at}
-use Rattle.ms_pool.proofs.ledger.GrowLemmas.{GrownWell, grown_well, grown_keeps_others}
+use Rattle.ms_pool.proofs.ledger.GrownAccountLemmas.{GrownWell, grown_well, grown_keeps_others}
 use Rattle.ms_pool.proofs.ledger.TakeLemmas.{lent_serves, lent_keeps_others}
 use Rattle.ms_arena.specs.Arena.{ArenaView, account_of}
 use Rattle.ms_loaders.specs.Loader.{LoaderView, account_in, owner_in, IsSoundView, IsArenaOf, AllocatesBlock}
@@ -31,7 +31,8 @@ use Rattle.ms_loaders.specs.Loader.{AfterAlloc}
 use Rattle.ms_loaders.specs.System.{machine_of, AreTogether}
 use Rattle.ms_loaders.proofs.steps.OutcomeLemmas.{SameBut, GrewAtAll, TookAtAll, GrownBy, LentBy, IsMade, Outcome}
 use Rattle.ms_loaders.proofs.steps.AskedLemmas.{outcome}
-use Rattle.ms_loaders.proofs.steps.ServedLemmas.{KeepsOther, block_keeps, apart_of, own_sound, own_served, together_after}
+use Rattle.ms_loaders.proofs.steps.ServedLemmas.{KeepsOther, block_keeps, apart_of}
+use Rattle.ms_loaders.proofs.steps.StillTogetherLemmas.{own_sound, own_served, together_after}
 use Rattle.ms_loaders.proofs.steps.StepLemmas.{alloc_answers_at}
 use Rattle.ms_loaders.proofs.steps.CauseLemmas.{alloc_answers_why}
 

@@ -17,7 +17,7 @@ use Rattle.ms_loaders.specs.Loader.{LoaderView, with_state, IsSoundView, HasWord
 use Rattle.ms_loaders.specs.Loader.{LacksName}
 use Rattle.ms_loaders.specs.System.{machine_of, AreTogether}
 use Rattle.ms_loaders.proofs.sums.FitLemmas.{machine_is_good}
-use Rattle.ms_loaders.proofs.steps.ServedLemmas.{together_with}
+use Rattle.ms_loaders.proofs.steps.StillTogetherLemmas.{together_with}
 use Rattle.ms_loaders.proofs.steps.StepLemmas.{has_loader, machine_with}
 
 -- What is served.

@@ -34,7 +34,8 @@ use Rattle.ms_loaders.specs.System.{states_of, machine_of, AreTogether}
 use Rattle.ms_loaders.proofs.steps.OutcomeLemmas.{GrewAtAll, TookAtAll, SameBut, IsNotMade, TakeCause}
 use Rattle.ms_loaders.proofs.steps.AskedLemmas.{outcome}
 use Rattle.ms_loaders.proofs.sums.FitLemmas.{fits}
-use Rattle.ms_loaders.proofs.steps.ServedLemmas.{apart_of, own_sound}
+use Rattle.ms_loaders.proofs.steps.ServedLemmas.{apart_of}
+use Rattle.ms_loaders.proofs.steps.StillTogetherLemmas.{own_sound}
 use Rattle.ms_loaders.proofs.steps.StepLemmas.{has_loader, lacks_loader}
 
 -- The refusals, as answers.

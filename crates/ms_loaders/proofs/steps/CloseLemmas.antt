@@ -4,7 +4,7 @@ use Rattle.std.proofs.Common.{◌≡◌, ◌≢◌, ◌≤◌, ◌<◌, ◌+◌,
 use Rattle.std.proofs.Common.{map, length, refl, sym, ap, ◌∙◌, subst, inl, inr, arith}
 use Rattle.std.specs.Prelude.{◌==◌}
 use Rattle.std.specs.Ordering.{nat_cmp}
-use Rattle.std.specs.List.{All, AllByRecursion, filter, flat_map}
+use Rattle.std.specs.List.{AllByRecursion, filter, flat_map}
 use Rattle.std.specs.List.Sorted.{IsPermutation}
 use Rattle.std.specs.Map.{values_of}
 use Rattle.std.proofs.lemmas.Bool.{eq-eqb, ne_eqb, cases_lt, cases_eq}
@@ -18,24 +18,20 @@ use Rattle.ms_base.specs.declared.kind.Kind.{Kind}
 use Rattle.ms_base.specs.declared.kind.Space.{Space}
 use Rattle.ms_base.specs.declared.kind.Space.TheVariants.{NonClass, Class}
 use Rattle.ms_base.specs.declared.span.Chunk.{Chunk}
-use Rattle.ms_base.specs.Part.{slot_of}
-use Rattle.ms_base.specs.Held.{has_chunk_in}
 use Rattle.ms_base.specs.Committed.{is_among}
 use Rattle.ms_base.specs.Names.{named, with_new}
-use Rattle.ms_base.specs.State.{LoaderState, chunks_held, empty_loader, recommitted as machine_recommitted}
-use Rattle.ms_base.specs.Good.{IsGood}
-use Rattle.ms_base.specs.Transition.{purged as machine_purged}
+use Rattle.ms_base.specs.State.{LoaderState, empty_loader}
 use Rattle.ms_base.proofs.entries.EntryLemmas.{Gap, gap_at, values_joined}
 use Rattle.ms_base.proofs.entries.NameLemmas.{rises_with_new}
 use Rattle.ms_base.proofs.runs.ApartLemmas.{list_any-with}
-use Rattle.ms_base.proofs.free.AlikeLemmas.{permuted_are_alike}
 use Rattle.ms_pool.specs.Account.{AccountState}
-use Rattle.ms_pool.specs.Ledger.{Loan, Ledger, Serves, IsSoundLedger, held_in, is_owned_by, with_opened, purged}
+use Rattle.ms_pool.specs.Ledger.{Loan, Ledger, Serves, IsSoundLedger, is_owned_by, with_opened}
 use Rattle.ms_pool.specs.Calls.{new_account}
 use Rattle.ms_loaders.specs.Loader.{LoaderView, account_in, new_loader, IsSoundView}
 use Rattle.ms_loaders.specs.System.{states_of, accounts_of, owners_of, machine_of, AreTogether}
 use Rattle.ms_loaders.proofs.MappedLemmas.{new-mapped}
-use Rattle.ms_loaders.proofs.sums.FitLemmas.{HasOwner, owner_of, owned, others, fits, machine_is_good, recommitted_machine}
+use Rattle.ms_loaders.proofs.sums.FitLemmas.{HasOwner, owner_of}
+use Rattle.ms_loaders.proofs.sums.OwnedLoanLemmas.{owned, others}
 use Rattle.ms_loaders.proofs.steps.ServedLemmas.{one_if, accounts_split, times, is_it, times_split}
 
 abbrev state_of : LoaderView → LoaderState
@@ -284,53 +280,3 @@ module _ (old : Ledger) (loaders : List (ℕ × LoaderView)) (name : ℕ) (kind 
       ∙ ap (λ (n : ℕ).
       record (machine_of old loaders) { loaders = with_new (states_of loaders) name (empty_loader kind); given = n })
       (omega arith)
-
--- Pool and loaders stay together where loans and counts of accounts stay.
-pub together_alike : (old new : Ledger) (loaders : List (ℕ × LoaderView)) → new.loans ≡ old.loans → new.given ≡ old.given
-    → new.opened ≡ old.opened → new.class_opened ≡ old.class_opened → IsSoundLedger new → AreTogether old loaders
-    → AreTogether new loaders
-together_alike old new loaders loans given opened class_opened sound its = record {
-  ledger_sound = sound;
-  loaders_sound = its.loaders_sound;
-  names = its.names;
-  served = record {
-    served = All-from_recursion (Serves new) (accounts_of loaders)
-        (served_with old new loans (omega (arith, given)) (accounts_of loaders)
-        (recursion_from_All (Serves old) (accounts_of loaders) its.served.served));
-    distinct = its.served.distinct;
-    no_other = subst (All (HasOwner (owners_of loaders))) (sym loans) its.served.no_other;
-    opened = opened ∙ its.served.opened;
-    class_opened = class_opened ∙ its.served.class_opened;
-  };
-}
-
--- Nodes purged.
-pub together_purged : (old new : Ledger) (loaders : List (ℕ × LoaderView)) → new ≡ purged old → IsSoundLedger new
-    → AreTogether old loaders → AreTogether new loaders
-together_purged old new loaders is =
-    together_alike old new loaders (ap (λ (l : Ledger). l.loans) is) (ap (λ (l : Ledger). l.given) is)
-    (ap (λ (l : Ledger). l.opened) is) (ap (λ (l : Ledger). l.class_opened) is)
-
-pub machine_purged_is : (old new : Ledger) (loaders : List (ℕ × LoaderView)) → new ≡ purged old → IsSoundLedger new
-    → AreTogether old loaders
-    → (machine_of new loaders ≡ machine_purged (machine_of old loaders)) × IsGood (machine_of new loaders)
-machine_purged_is old new loaders is sound its = (
-  ap (λ (l : Ledger). machine_of l loaders) is
-      ∙ recommitted_machine (record old { slots = filter (has_chunk_in (held_in NonClass old)) old.slots }) loaders
-      (fits old loaders its.loaders_sound its.served)
-      ∙ ap (λ (l : List ℕ). machine_recommitted (record (machine_of old loaders) { slots = l }))
-      (same_filter old.slots),
-  machine_is_good new loaders (together_purged old new loaders is sound its),
-)
-  where
-    same_filter : (slots : List ℕ)
-        → filter (has_chunk_in (held_in NonClass old)) slots
-        ≡ filter (has_chunk_in (chunks_held NonClass (states_of loaders))) slots
-    same_filter [] = refl
-    same_filter (slot ∷ slots) =
-        ap (λ b. cond b (slot ∷ filter (has_chunk_in (held_in NonClass old)) slots)
-        (filter (has_chunk_in (held_in NonClass old)) slots))
-        (permuted_are_alike (held_in NonClass old) (chunks_held NonClass (states_of loaders))
-        (fits old loaders its.loaders_sound its.served NonClass) (λ chunk. slot_of chunk.start == slot))
-        ∙ ap (λ (l : List ℕ). cond (has_chunk_in (chunks_held NonClass (states_of loaders)) slot) (slot ∷ l) l)
-        (same_filter slots)

@@ -1,7 +1,7 @@
 -- The pool serves the loaders' accounts, and lends to no other, after a loader's allocation.
-use Rattle.std.proofs.Common.{◌≡◌, ◌≢◌, ◌+◌, ℕ, suc, Bool, true, false, cond, ◌||◌, Option, Some, IfSome, Result, Ok}
+use Rattle.std.proofs.Common.{◌≡◌, ◌≢◌, ◌+◌, ℕ, suc, Bool, true, false, cond, ◌||◌, Some, Result, Ok}
 use Rattle.std.proofs.Common.{Err, List, [], ◌∷◌, ◌++◌, map, length, refl, sym, ap, ◌∙◌, subst, inl, inr, arith}
-use Rattle.std.specs.Prelude.{◌==◌, nat_lt}
+use Rattle.std.specs.Prelude.{◌==◌}
 use Rattle.std.specs.Ordering.{nat_cmp}
 use Rattle.std.specs.List.{All, AllByRecursion, count_by, list_any, flat_map}
 use Rattle.std.specs.Map.{values_of}
@@ -11,7 +11,6 @@ use Rattle.std.proofs.lemmas.List.{map-append}
 use Rattle.std.proofs.lemmas.List.Concat.{flat_map-append}
 use Rattle.std.proofs.lemmas.List.Sums.{sum_by-cons, sum_by-append}
 use Rattle.std.proofs.lemmas.List.Elements.{recursion_from_All, All-from_recursion}
-use Rattle.std.proofs.lemmas.Map.Views.{All-values-set_value, IfSome-lookup_from_All}
 use Rattle.ms_base.specs.declared.kind.Space.{Space}
 use Rattle.ms_base.specs.declared.kind.Space.TheVariants.{NonClass, Class}
 use Rattle.ms_base.specs.declared.policy.Policy.{Policy}
@@ -25,18 +24,19 @@ use Rattle.ms_base.specs.Committed.{is_among}
 use Rattle.ms_base.specs.Names.{named, with_new, with_changed}
 use Rattle.ms_base.specs.State.{ArenaState, arena_of}
 use Rattle.ms_base.specs.Transition.{zeroed}
-use Rattle.ms_base.proofs.entries.EntryLemmas.{Split, split_at, values_split, rises_with_changed}
+use Rattle.ms_base.proofs.entries.EntryLemmas.{Split, split_at, values_split}
 use Rattle.ms_base.proofs.runs.ApartLemmas.{list_any-with}
 use Rattle.ms_base.proofs.arena.BlockLemmas.{arena_elsewhere}
 use Rattle.ms_pool.specs.Account.{AccountState}
-use Rattle.ms_pool.specs.Ledger.{Loan, Ledger, Serves, IsSoundLedger, opened_in, with_loan}
+use Rattle.ms_pool.specs.Ledger.{Loan, Ledger}
 use Rattle.ms_arena.specs.Arena.{ArenaView}
 use Rattle.ms_arena.specs.Alloc.{TakeRelation, GrowRelation}
 use Rattle.ms_loaders.specs.Loader.{LoaderView, account_in, IsSoundView, AllocatesBlock, AfterAlloc, IsArenaOf}
-use Rattle.ms_loaders.specs.System.{accounts_of, owners_of, AreDistinct, AreServed, AreTogether}
-use Rattle.ms_loaders.proofs.steps.OutcomeLemmas.{GrewAtAll, TookAtAll, Outcome}
+use Rattle.ms_loaders.specs.System.{accounts_of, owners_of, AreDistinct}
+use Rattle.ms_loaders.proofs.steps.OutcomeLemmas.{GrewAtAll, TookAtAll}
 use Rattle.ms_loaders.proofs.steps.AskedLemmas.{outcome}
 use Rattle.ms_loaders.proofs.sums.FitLemmas.{HasOwner, owner_of}
+use Rattle.ms_loaders.proofs.steps.HasOwnerLemmas.{outcome_has}
 
 -- The accounts of loaders before, at and after a name.
 pub accounts_split : (b a : List (ℕ × LoaderView)) (name : ℕ) (v : LoaderView)
@@ -186,43 +186,6 @@ owners_stay space loaders name was is found keeps =
     ∙ ap (λ (n : ℕ). owners_of split.before ++ was.owner ∷ n ∷ owners_of split.after) keeps.class_owner
     ∙ sym (ap owners_of split.is ∙ owners_split split.before split.after name was)
 
--- No other owner is lent a chunk.
-grown_have : (owners : List ℕ) (loans : List Loan) (chunk : Chunk) → AllByRecursion (HasOwner owners) loans
-    → AllByRecursion (HasOwner owners)
-    (map (λ (loan : Loan). cond (loan.chunk.start == chunk.start) (record loan { chunk = chunk }) loan) loans)
-grown_have owners [] chunk all = tt
-grown_have owners (loan ∷ loans) chunk all = (
-  elim (loan.chunk.start == chunk.start) as (λ b. HasOwner owners
-      (cond b (record loan { chunk = chunk }) loan)) [ true ↦ all.0 | false ↦ all.0 ],
-  grown_have owners loans chunk all.1,
-)
-
-lent_have : (owners : List ℕ) (loans : List Loan) (added : Loan) → HasOwner owners added
-    → AllByRecursion (HasOwner owners) loans → AllByRecursion (HasOwner owners) (with_loan added loans)
-lent_have owners [] added own all = (own, tt)
-lent_have owners (loan ∷ loans) added own all =
-    elim (nat_lt loan.chunk.start added.chunk.start) as (λ b. AllByRecursion (HasOwner owners)
-    (cond b (loan ∷ with_loan added loans) (added ∷ loan ∷ loans))) [
-      | true ↦ (all.0, lent_have owners loans added own all.1)
-      | false ↦ (own, all)
-    ]
-
-outcome_has : (owners : List ℕ) (was is : ArenaView) (words : ℕ) (old new : Ledger) (answer : Result Block Refusal)
-    → Outcome was words old answer is new → is_among owners was.owner ≡ true
-    → AllByRecursion (HasOwner owners) old.loans → AllByRecursion (HasOwner owners) new.loans
-outcome_has owners was is words old new (Ok block) its own all = elim its.how [
-  | inl stays ↦ subst (λ (l : List Loan). AllByRecursion (HasOwner owners) l)
-      (ap (λ (l : Ledger). l.loans) (sym stays.1)) all
-  | inr other ↦ elim other [
-    | inl grown ↦ subst (λ (l : List Loan). AllByRecursion (HasOwner owners) l)
-        (ap (λ (l : Ledger). l.loans) (sym grown.ledger)) (grown_have owners old.loans grown.greater all)
-    | inr lent ↦ subst (λ (l : List Loan). AllByRecursion (HasOwner owners) l)
-        (ap (λ (l : Ledger). l.loans) (sym lent.ledger)) (lent_have owners old.loans _ own all)
-  ]
-]
-outcome_has owners was is words old new (Err refusal) its own all =
-    subst (λ (l : List Loan). AllByRecursion (HasOwner owners) l) (ap (λ (l : Ledger). l.loans) (sym its.ledger.is)) all
-
 pub own_is_among : (space : Space) (loaders : List (ℕ × LoaderView)) (name : ℕ) (v : LoaderView)
     → named loaders name ≡ Some v
     → is_among (owners_of loaders) (by_space space v.owner v.class_owner) ≡ true
@@ -290,7 +253,7 @@ apart_of space v arena sound its =
     subst (λ (books : ArenaState). are_apart (map words_of books.chunks) ≡ true) (sym its.books)
     (sound.chunks space).apart
 
-block_has : (owners : List ℕ) (space : Space) (was is : LoaderView) (name words : ℕ) (old new : Ledger)
+pub block_has : (owners : List ℕ) (space : Space) (was is : LoaderView) (name words : ℕ) (old new : Ledger)
     (answer : Result Block Refusal) → IsSoundView was
     → AllocatesBlock GrewAtAll TookAtAll old.limits.policy space was name words old answer is new
     → is_among owners (by_space space was.owner was.class_owner) ≡ true
@@ -313,116 +276,3 @@ length_changed {X} (e ∷ es) name x =
       | true ↦ refl
       | false ↦ ap suc (length_changed es name x)
     ]
-
--- Where all loaders are sound, so is one by its name.
-pub named_sound : (loaders : List (ℕ × LoaderView)) (name : ℕ) (v : LoaderView) → named loaders name ≡ Some v
-    → All IsSoundView (values_of loaders) → IsSoundView v
-named_sound loaders name v found all =
-    subst (λ (o : Option LoaderView). IfSome o IsSoundView) found
-    (IfSome-lookup_from_All IsSoundView (is_at (nat_cmp name)) loaders all)
-
-pub own_sound : (ledger : Ledger) (loaders : List (ℕ × LoaderView)) (name : ℕ) (v : LoaderView)
-    → named loaders name ≡ Some v → AreTogether ledger loaders → IsSoundView v
-own_sound ledger loaders name v found its = named_sound loaders name v found its.loaders_sound
-
--- So pool and loaders are together still where one loader changed in a space, and the pool for it
--- alone.
-pub together_still : (space : Space) (old new : Ledger) (loaders : List (ℕ × LoaderView)) (name : ℕ)
-    (was is : LoaderView) → named loaders name ≡ Some was → KeepsOther space was is → Serves new (account_in space is)
-    → ((other : AccountState) → other.owner ≢ (account_in space was).owner → Serves old other → Serves new other)
-    → All (HasOwner (owners_of loaders)) new.loans → opened_in new ≡ opened_in old → IsSoundLedger new
-    → IsSoundView is → AreTogether old loaders → AreTogether new (with_changed loaders name is)
-together_still space old new loaders name was is found keeps own each no_other opened ledger_sound is_sound its = record {
-  ledger_sound = ledger_sound;
-  loaders_sound = All-values-set_value (is_at (nat_cmp name)) IsSoundView loaders is its.loaders_sound is_sound;
-  names = rises_with_changed loaders name is its.names;
-  served = record {
-    served = all_still (Serves old) (Serves new) space loaders name was is found keeps its.served.distinct each own
-        its.served.served;
-    distinct = subst AreDistinct (sym owners_same) its.served.distinct;
-    no_other = subst (λ (owners : List ℕ). All (HasOwner owners) new.loans) (sym owners_same) no_other;
-    opened = ap (λ (f : Space → ℕ). f NonClass) opened ∙ its.served.opened ∙ sym (length_changed loaders name is);
-    class_opened = ap (λ (f : Space → ℕ). f Class) opened ∙ its.served.class_opened
-        ∙ sym (length_changed loaders name is);
-  };
-}
-  where
-    owners_same : owners_of (with_changed loaders name is) ≡ owners_of loaders
-    owners_same = owners_stay space loaders name was is found keeps
-
-pub together_after : (space : Space) (old new : Ledger) (loaders : List (ℕ × LoaderView)) (name block words : ℕ)
-    (was is : LoaderView) (answer : Result Block Refusal)
-    → named loaders name ≡ Some was
-    → AllocatesBlock GrewAtAll TookAtAll old.limits.policy space was block words old answer is new
-    → Serves new (account_in space is)
-    → ((other : AccountState) → other.owner ≢ (account_in space was).owner → Serves old other → Serves new other)
-    → opened_in new ≡ opened_in old → IsSoundLedger new → IsSoundView is → AreTogether old loaders
-    → AreTogether new (with_changed loaders name is)
-together_after space old new loaders name block words was is answer found allocates own each opened ledger_sound
-    is_sound its =
-    together_still space old new loaders name was is found
-    (block_keeps GrewAtAll TookAtAll old.limits.policy space was is block words old new answer allocates) own each
-    (All-from_recursion (HasOwner (owners_of loaders)) new.loans
-    (block_has (owners_of loaders) space was is block words old new answer
-    (own_sound old loaders name was found its) allocates (own_is_among space loaders name was found)
-    (recursion_from_All (HasOwner (owners_of loaders)) old.loans its.served.no_other)))
-    opened ledger_sound is_sound its
-
--- Each loader's accounts are served.
-pub own_served : (space : Space) (ledger : Ledger) (loaders : List (ℕ × LoaderView)) (name : ℕ) (v : LoaderView)
-    → named loaders name ≡ Some v → AreServed ledger loaders
-    → Serves ledger (account_in space v)
-own_served space ledger loaders name v found its = go space
-  where
-    split : Split loaders name v
-    split = split_at loaders name v found
-
-    parts : AllByRecursion (Serves ledger) (accounts_of split.before) × Serves ledger (account_in NonClass v)
-        × Serves ledger (account_in Class v) × AllByRecursion (Serves ledger) (accounts_of split.after)
-    parts = all_parts (Serves ledger) (accounts_of split.before) (accounts_of split.after) (account_in NonClass v)
-        (account_in Class v)
-        (rw (ap accounts_of split.is
-        ∙ accounts_split split.before split.after name v) at (recursion_from_All (Serves ledger)
-        (accounts_of loaders) its.served))
-
-    go : (one : Space) → Serves ledger (account_in one v)
-    go NonClass = parts.1
-    go Class = parts.2
-
--- Pool and loaders are together still where a loader changes but for its owners and chunks.
-pub together_with : (ledger : Ledger) (loaders : List (ℕ × LoaderView)) (name : ℕ) (was is : LoaderView)
-    → named loaders name ≡ Some was → is.owner ≡ was.owner → is.class_owner ≡ was.class_owner
-    → ((space : Space) → (arena_of space is.state).chunks ≡ (arena_of space was.state).chunks) → IsSoundView is
-    → AreTogether ledger loaders → AreTogether ledger (with_changed loaders name is)
-together_with ledger loaders name was is found owner class_owner chunks sound its = record {
-  ledger_sound = its.ledger_sound;
-  loaders_sound = All-values-set_value (is_at (nat_cmp name)) IsSoundView loaders is its.loaders_sound sound;
-  names = rises_with_changed loaders name is its.names;
-  served = record {
-    served = subst (All (Serves ledger)) (sym same) its.served.served;
-    distinct = subst AreDistinct (sym (ap (map owner_of) same)) its.served.distinct;
-    no_other =
-        subst (λ (accounts : List AccountState). All (HasOwner (map owner_of accounts)) ledger.loans)
-        (sym same) its.served.no_other;
-    opened = its.served.opened ∙ sym (length_changed loaders name is);
-    class_opened = its.served.class_opened ∙ sym (length_changed loaders name is);
-  };
-}
-  where
-    split : Split loaders name was
-    split = split_at loaders name was found
-
-    account_same : (space : Space) → by_space space is.owner is.class_owner ≡ by_space space was.owner was.class_owner
-        → account_in space is ≡ account_in space was
-    account_same space owners =
-        ap (λ (n : ℕ). record { owner = n; space = space; chunks = (arena_of space is.state).chunks }) owners
-        ∙ ap (λ (l : List Chunk).
-        record { owner = by_space space was.owner was.class_owner; space = space; chunks = l }) (chunks space)
-
-    same : accounts_of (with_changed loaders name is) ≡ accounts_of loaders
-    same = ap accounts_of (split.changed is) ∙ accounts_split split.before split.after name is
-        ∙ ap (λ (a : AccountState). accounts_of split.before ++ a ∷ account_in Class is ∷ accounts_of split.after)
-        (account_same NonClass owner)
-        ∙ ap (λ (a : AccountState). accounts_of split.before ++ account_in NonClass was ∷ a ∷ accounts_of split.after)
-        (account_same Class class_owner)
-        ∙ sym (ap accounts_of split.is ∙ accounts_split split.before split.after name was)

@@ -29,7 +29,8 @@ use Rattle.ms_loaders.proofs.steps.CallLemmas.{together_written, is_written, tog
 use Rattle.ms_loaders.proofs.steps.CallLemmas.{word_is_refused, free_is_refused}
 use Rattle.ms_loaders.proofs.steps.CauseLemmas.{alloc_finds_none}
 use Rattle.ms_loaders.proofs.steps.CloseLemmas.{with_both, first_account, second_account, together_made}
-use Rattle.ms_loaders.proofs.steps.CloseLemmas.{machine_made, together_purged, machine_purged_is}
+use Rattle.ms_loaders.proofs.steps.CloseLemmas.{machine_made}
+use Rattle.ms_loaders.proofs.steps.PurgeStepLemmas.{together_purged, machine_purged_is}
 use Rattle.ms_loaders.proofs.sums.FitLemmas.{machine_is_good}
 use Rattle.ms_loaders.proofs.events.TalliedLemmas.{together_tallied}
 use Rattle.ms_loaders.proofs.steps.StepLemmas.{has_loader, lacks_loader}

@@ -41,7 +41,8 @@ use Rattle.ms_loaders.proofs.MappedLemmas.{found-mapped, missing-mapped, changed
 use Rattle.ms_loaders.proofs.steps.OutcomeLemmas.{GrewAtAll, TookAtAll, GrownBy, LentBy, IsMade, picked_is}
 use Rattle.ms_loaders.proofs.steps.AskedLemmas.{outcome}
 use Rattle.ms_loaders.proofs.sums.FitLemmas.{fits, machine_is_good, recommitted_machine}
-use Rattle.ms_loaders.proofs.steps.ServedLemmas.{apart_of, own_sound}
+use Rattle.ms_loaders.proofs.steps.ServedLemmas.{apart_of}
+use Rattle.ms_loaders.proofs.steps.StillTogetherLemmas.{own_sound}
 
 abbrev state_of : LoaderView → LoaderState
 state_of loader = loader.state

@@ -28,7 +28,8 @@ use Rattle.ms_pool.specs.Ledger.{Loan, Ledger, Serves, IsSoundLedger, held_in, o
 use Rattle.ms_loaders.specs.Loader.{LoaderView, account_in, IsSoundView}
 use Rattle.ms_loaders.specs.System.{states_of, accounts_of, owners_of, machine_of, AreTogether}
 use Rattle.ms_loaders.proofs.MappedLemmas.{without-mapped}
-use Rattle.ms_loaders.proofs.sums.FitLemmas.{HasOwner, owner_of, owned, others, owned_elsewhere, fits, machine_is_good}
+use Rattle.ms_loaders.proofs.sums.FitLemmas.{HasOwner, owner_of, fits, machine_is_good}
+use Rattle.ms_loaders.proofs.sums.OwnedLoanLemmas.{owned, others, owned_elsewhere}
 use Rattle.ms_loaders.proofs.sums.FitLemmas.{recommitted_machine}
 use Rattle.ms_loaders.proofs.steps.ServedLemmas.{accounts_split, times, is_it, it_is, times_split, all_parts}
 use Rattle.ms_loaders.proofs.steps.CloseLemmas.{accounts_joined, all_others, fresh_owner, served_with, with_both}

@@ -1,15 +1,14 @@
 -- The chunks that the pool has lent are those that the loaders hold, in another order; so the
 -- machine that a pool and its loaders are is good, and its granules are the pool's.
-use Rattle.std.proofs.Common.{◌≡◌, ◌≢◌, ◌+◌, ℕ, Bool, true, false, cond, not, ◌&&◌, ◌||◌, List, [], ◌∷◌, ◌++◌, map, ◌-◌}
+use Rattle.std.proofs.Common.{◌≡◌, ◌+◌, ℕ, Bool, true, false, cond, not, ◌&&◌, ◌||◌, List, [], ◌∷◌, ◌++◌, map, ◌-◌}
 use Rattle.std.proofs.Common.{refl, sym, ap, ◌∙◌, subst, inl, inr, arith, append-nil}
 use Rattle.std.specs.Prelude.{◌==◌}
-use Rattle.std.specs.List.{All, AllByRecursion, filter, flat_map, count_by}
+use Rattle.std.specs.List.{All, AllByRecursion, filter, flat_map}
 use Rattle.std.specs.List.Sorted.{IsPermutation}
 use Rattle.std.specs.Map.{values_of}
-use Rattle.std.proofs.lemmas.Bool.{and_parts, and_from, or_cases, eqb-true, eq-eqb, both_ways, ne_eqb}
+use Rattle.std.proofs.lemmas.Bool.{and_parts, and_from, or_cases, eqb-true, eq-eqb, both_ways}
 use Rattle.std.proofs.lemmas.Nat.{pow_pos}
 use Rattle.std.proofs.lemmas.List.{map-append, append_assoc}
-use Rattle.std.proofs.lemmas.List.Sums.{sum_by-cons}
 use Rattle.std.proofs.lemmas.List.Elements.{filter-append, recursion_from_All, All-from_recursion}
 use Rattle.std.proofs.lemmas.List.Sorted.{IsPermutation-refl, IsPermutation-trans, IsPermutation-append}
 use Rattle.std.proofs.lemmas.List.Sorted.{IsPermutation-filter_both, IsPermutation-map}
@@ -31,6 +30,7 @@ use Rattle.ms_loaders.specs.System.{states_of, accounts_of, owners_of, machine_o
 use Rattle.ms_loaders.proofs.TimesLemmas.{Tells, kept-permuted}
 use Rattle.ms_loaders.proofs.MappedLemmas.{rises-mapped}
 use Rattle.ms_loaders.proofs.calls.LoaderSpaceLemmas.{chunk_in_space}
+use Rattle.ms_loaders.proofs.sums.OwnedLoanLemmas.{chunk_of, owned, others, owned_elsewhere, distinct_rest, not_again}
 
 -- The test that tells chunks.
 abbrev same_chunk : Chunk → Chunk → Bool
@@ -55,66 +55,6 @@ tells_chunks = record {
       (eq-eqb a.start a.start refl)
       (and_from (a.level == a.level) (a.front == a.front) (eq-eqb a.level a.level refl) (eq-eqb a.front a.front refl));
 }
-
--- The chunks of loans, and those of one owner.
-abbrev pub chunk_of : Loan → Chunk
-chunk_of loan = loan.chunk
-
-abbrev pub owned : ℕ → List Loan → List Chunk
-owned owner loans = map chunk_of (filter (is_owned_by owner) loans)
-
-abbrev pub others : ℕ → List Loan → List Loan
-others owner loans = filter (λ loan. not (is_owned_by owner loan)) loans
-
--- What an owner holds is among the loans of others than another one.
-pub owned_elsewhere : (owner other : ℕ) (loans : List Loan) → owner ≢ other
-    → owned owner (others other loans) ≡ owned owner loans
-owned_elsewhere owner other [] differ = refl
-owned_elsewhere owner other (loan ∷ loans) differ =
-    elim (loan.owner == other) as (λ b. (loan.owner == other) ≡ b
-    → map chunk_of (filter (is_owned_by owner) (cond (not b) (loan ∷ others other loans) (others other loans)))
-    ≡ map chunk_of
-    (cond (loan.owner == owner) (loan ∷ filter (is_owned_by owner) loans) (filter (is_owned_by owner) loans))) [
-      | true ↦ λ same. owned_elsewhere owner other loans differ
-          ∙ ap (λ b. map chunk_of (cond b (loan ∷ filter (is_owned_by owner) loans) (filter (is_owned_by owner) loans)))
-          (sym (ne_eqb loan.owner owner (λ e. differ (sym e ∙ eqb-true loan.owner other same))))
-      | false ↦
-          λ past. elim (loan.owner == owner) as (λ b. map chunk_of
-          (cond b (loan ∷ filter (is_owned_by owner) (others other loans))
-          (filter (is_owned_by owner) (others other loans)))
-          ≡ map chunk_of (cond b (loan ∷ filter (is_owned_by owner) loans) (filter (is_owned_by owner) loans))) [
-            | true ↦ ap (λ (l : List Chunk). loan.chunk ∷ l) (owned_elsewhere owner other loans differ)
-            | false ↦ owned_elsewhere owner other loans differ
-          ]
-    ] refl
-
--- How often a number stands in a list that begins with it.
-pub distinct_rest : (number : ℕ) (numbers : List ℕ) → AreDistinct (number ∷ numbers) → AreDistinct numbers
-distinct_rest number numbers distinct other =
-    omega (arith, distinct other, sum_by-cons (λ (n : ℕ). cond (n == other) 1 0) number numbers)
-
-abbrev one_if : Bool → ℕ
-one_if b = cond b 1 0
-
-none_counted : (number : ℕ) (numbers : List ℕ) → count_by (λ other. other == number) numbers ≡ 0
-    → is_among numbers number ≡ false
-none_counted number [] none = refl
-none_counted number (n ∷ numbers) none =
-    elim (n == number) as (λ b. cond b 1 0 + count_by (λ other. other == number) numbers ≡ 0
-    → (b || is_among numbers number) ≡ false) [
-      | true ↦ λ e. absurd (omega (arith, e))
-      | false ↦ λ e. none_counted number numbers (omega (arith, e))
-    ] (sym (sum_by-cons (λ (k : ℕ). cond (k == number) 1 0) n numbers) ∙ none)
-
-pub not_again : (number : ℕ) (numbers : List ℕ) → AreDistinct (number ∷ numbers) → is_among numbers number ≡ false
-not_again number numbers distinct =
-    none_counted number numbers
-    (omega (
-      arith,
-      distinct number,
-      sum_by-cons (λ (n : ℕ). cond (n == number) 1 0) number numbers,
-      ap one_if (eq-eqb number number refl),
-    ))
 
 -- The loans of accounts whose owners differ are those accounts' chunks, where no other owner has
 -- one.

@@ -95,7 +95,7 @@ pub room_there : (space : Space) (lender : Lender) (chunk : Chunk) → IsKept le
 room_there space lender chunk kept counted placed within =
     room_for (counted_in space lender.lent) (held_in space (ledger_of lender)) chunk (counted space)
     (omega (arith, placed.0)) (total_words space lender kept) (total_fronts space lender kept)
-    (size_falls 0 chunk.level (omega arith) placed.0) within
+    (size_falls 0 chunk.level (omega arith)) within
 
 -- A run of a space starts there.
 pub run_starts_in : (space : Space) (start words : ℕ) → 1 ≤ words → IsRunOf space start words

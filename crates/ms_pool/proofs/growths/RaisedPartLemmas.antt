@@ -26,7 +26,8 @@ use Rattle.ms_pool.specs.Releasing.{is_lent_in}
 use Rattle.ms_pool.proofs.ledger.LoanLemmas.{chunks_in}
 use Rattle.ms_pool.proofs.loans.LendLemmas.{LendsIn, any_with, committed_once_lent}
 use Rattle.ms_pool.proofs.loans.LentPartLemmas.{built, built_of, with_front_of, committed_before, held_before}
-use Rattle.ms_pool.proofs.loans.LentPartLemmas.{with_front_stays, Shows}
+use Rattle.ms_pool.proofs.loans.LentPartLemmas.{with_front_stays}
+use Rattle.ms_pool.proofs.loans.ShownLemmas.{Shows}
 use Rattle.ms_pool.proofs.loans.OpenLemmas.{own_in_space, reserved_of_space}
 use Rattle.ms_pool.specs.Placing.{IsLentThere, MayBeReplaced}
 

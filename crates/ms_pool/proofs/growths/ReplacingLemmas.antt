@@ -18,8 +18,9 @@ use Rattle.ms_pool.proofs.growths.GrowingLemmas.{FitsThere, IsOwn, WellReached, 
 use Rattle.ms_pool.proofs.growths.GrowingLemmas.{well_reached, within_space}
 use Rattle.ms_pool.proofs.growths.ReachLemmas.{grown_within, grown_stays}
 use Rattle.ms_pool.proofs.ledger.GreaterLemmas.{IsGreater, grown_is_greater}
-use Rattle.ms_pool.proofs.ledger.GrowLemmas.{GrownThere, GrownWell, grown_there, grown_well, own_is_held}
-use Rattle.ms_pool.proofs.ledger.GrowLemmas.{with_greater}
+use Rattle.ms_pool.proofs.ledger.GrowLemmas.{GrownThere, grown_there, own_is_held}
+use Rattle.ms_pool.proofs.ledger.GrownAccountLemmas.{GrownWell, grown_well}
+use Rattle.ms_pool.proofs.ledger.GrownAccountLemmas.{with_greater}
 use Rattle.ms_pool.proofs.ledger.LoanAtLemmas.{contains_at}
 use Rattle.ms_pool.specs.Lending.{Grows, span_of}
 use Rattle.ms_pool.specs.Calls.{GrewFrom, Grew}

@@ -101,7 +101,7 @@ sized (c ∷ held) parts =
       arith,
       sized held parts.1,
       sum_by-cons (λ (chunk : Chunk). size_of chunk.level) c held,
-      size_falls c.level highest_level parts.0.0 (omega arith),
+      size_falls c.level highest_level parts.0.0,
     )
 
 held_are_few : (space : Space) (ledger : Ledger) → IsSoundLedger ledger → length (chunks_in space ledger.loans) ≤ 524288

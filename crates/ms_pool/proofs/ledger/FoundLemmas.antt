@@ -22,7 +22,7 @@ use Rattle.ms_base.specs.PoolSteps.Causes.{has_room}
 use Rattle.ms_base.specs.Laws.{is_number}
 use Rattle.ms_base.specs.PoolSteps.Pick.{candidates, found_at, levels_up, levels_down, lowest_unreserved}
 use Rattle.ms_base.proofs.granules.GranuleLemmas.{ends_in_node}
-use Rattle.ms_base.proofs.granules.NeedLemmas.{committed_found, down_has, found_in_turn, others_found, up_has}
+use Rattle.ms_base.proofs.granules.EnoughLemmas.{committed_found, down_has, found_in_turn, others_found, up_has}
 
 -- What an element of a list gives is among what all give.
 some_given : {X : Type 0} (p : X → Bool) (f : ℕ → List X) (levels : List ℕ) (level : ℕ)

@@ -21,7 +21,7 @@ use Rattle.ms_base.specs.Laws.Sum.{GrowsWell}
 use Rattle.ms_base.specs.Good.{IsSoundPool}
 use Rattle.ms_base.proofs.arena.GrownLemmas.{GrowsClear, clear_from_runs, parent_clear, parent_size}
 use Rattle.ms_base.proofs.granules.GranuleGrowingLemmas.{growing_keeps_the_limit, growing_is_clear}
-use Rattle.ms_base.proofs.machine.BackedLemmas.{middle_is_clear}
+use Rattle.ms_base.proofs.machine.BlocksApartLemmas.{middle_is_clear}
 use Rattle.ms_base.proofs.runs.ApartLemmas.{apart-rest_of, apart-with, list_any-rest_of, meet_turned}
 use Rattle.ms_pool.specs.Lending.{MayBeParent, reaching}
 

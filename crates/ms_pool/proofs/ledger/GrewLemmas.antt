@@ -11,7 +11,7 @@ use Rattle.ms_pool.specs.Lending.{Grows, reaching}
 use Rattle.ms_pool.specs.Ledger.{Ledger, IsSoundLedger, Serves}
 use Rattle.ms_pool.specs.Calls.{GrewFrom, Grew}
 use Rattle.ms_pool.proofs.ledger.LoanAtLemmas.{contains_at, same_from_start, swapped_at}
-use Rattle.ms_pool.proofs.ledger.GrowLemmas.{GrownWell, grown_well, with_greater, grown_keeps_others}
+use Rattle.ms_pool.proofs.ledger.GrownAccountLemmas.{GrownWell, grown_well, with_greater, grown_keeps_others}
 use Rattle.ms_pool.proofs.ledger.KeepsLemmas.{RaisesTally, Keeps, keeps_where_tallied, serves_where_tallied}
 
 -- A chunk that doesn't grow.

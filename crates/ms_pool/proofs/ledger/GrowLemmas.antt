@@ -1,17 +1,16 @@
 -- Growing a chunk: the ledger stays sound, the account is served with the greater chunk, and all
 -- others still.
-use Rattle.std.proofs.Common.{◌≡◌, ◌≢◌, ◌≤◌, ◌+◌, ℕ, Bool, true, false, ◌||◌, Some, List, [], ◌∷◌, ◌++◌, length, map}
-use Rattle.std.proofs.Common.{refl, sym, ap, ◌∙◌, subst, arith, inl, inr, length-set}
-use Rattle.std.specs.Prelude.{Ok, slice_get, slice_set}
+use Rattle.std.proofs.Common.{◌≡◌, ◌≤◌, ◌+◌, ℕ, Bool, true, false, ◌||◌, List, [], ◌∷◌, ◌++◌, length, map}
+use Rattle.std.proofs.Common.{refl, sym, ap, ◌∙◌, subst, arith}
 use Rattle.std.specs.List.{Contains, list_any, list_all}
-use Rattle.std.specs.List.Sorted.{IsPermutation, IsStrictlyIncreasing}
+use Rattle.std.specs.List.Sorted.{IsStrictlyIncreasing}
 use Rattle.std.proofs.lemmas.Bool.{and_parts}
-use Rattle.std.proofs.lemmas.List.Elements.{All-contains, All-set, Contains-append_right}
+use Rattle.std.proofs.lemmas.List.Elements.{All-contains, Contains-append_right}
 use Rattle.std.proofs.lemmas.List.Folds.{list_all-append}
-use Rattle.std.proofs.lemmas.List.Sorted.{Contains-permutation, IsPermutation-map, IsPermutation-sym}
+use Rattle.std.proofs.lemmas.List.Sorted.{Contains-permutation, IsPermutation-sym}
 use Rattle.ms_base.specs.declared.kind.Space.{Space}
 use Rattle.ms_base.specs.declared.span.Chunk.{Chunk}
-use Rattle.ms_base.specs.Level.{size_of, highest_level}
+use Rattle.ms_base.specs.Level.{highest_level}
 use Rattle.ms_base.specs.Part.{IsPart, slot_of, is_reserved}
 use Rattle.ms_base.specs.Spaces.{IsSlotOf, is_in, other_space}
 use Rattle.ms_base.specs.Held.{AreHeld}
@@ -19,24 +18,20 @@ use Rattle.ms_base.specs.Committed.{is_committed, committed_with}
 use Rattle.ms_base.specs.State.{PoolState}
 use Rattle.ms_base.specs.PoolSteps.Pick.{granule_in}
 use Rattle.ms_base.specs.PoolSteps.Causes.{granules_missing}
-use Rattle.ms_base.specs.PoolSteps.{grown}
-use Rattle.ms_base.proofs.arena.GrownLemmas.{GrowsClear, Parted, parted_at}
 use Rattle.ms_base.proofs.granules.GranuleCountLemmas.{meets_front, count_with_front, committed_in_slots}
 use Rattle.ms_base.proofs.machine.HeldLemmas.{held_rest, held_with}
 use Rattle.ms_base.proofs.runs.ApartLemmas.{list_any-with}
 use Rattle.ms_base.proofs.arena.BlockLemmas.{not_in_other}
 use Rattle.ms_pool.specs.Account.{AccountState, AreChunks}
-use Rattle.ms_pool.specs.Lending.{Grows, reaching, span_of}
 use Rattle.ms_pool.specs.Ledger.{Loan, Ledger, IsSoundLedger, Serves, chunks_of, state_in, with_grown}
-use Rattle.ms_pool.proofs.ledger.LoanLemmas.{chunks_in, chunks_in-here, chunks_in-there, owned_by, owned_by-other}
+use Rattle.ms_pool.proofs.ledger.LoanLemmas.{chunks_in, chunks_in-here, chunks_in-there}
 use Rattle.ms_pool.proofs.ledger.SoundLemmas.{sound_with_loans}
 use Rattle.ms_pool.proofs.ledger.LedgerSlotLemmas.{starts_in}
 use Rattle.ms_pool.proofs.ledger.LoanOrderLemmas.{start_of}
-use Rattle.ms_pool.proofs.ledger.AccountLemmas.{own_clear}
-use Rattle.ms_pool.proofs.ledger.GreaterLemmas.{IsGreater, IsReached, grown_is_greater, grown_reaches, grown_is_apart}
+use Rattle.ms_pool.proofs.ledger.GreaterLemmas.{IsGreater}
 use Rattle.ms_pool.proofs.ledger.GreaterLemmas.{grown_meets_none}
-use Rattle.ms_pool.proofs.ledger.LoanAtLemmas.{IsLoan, loan_of, contains_at, replaced, replaced_at}
-use Rattle.ms_pool.proofs.ledger.LoanAtLemmas.{order_replaced, owners_replaced, swapped, swapped_at, owned_by-replaced}
+use Rattle.ms_pool.proofs.ledger.LoanAtLemmas.{IsLoan, loan_of, replaced, replaced_at}
+use Rattle.ms_pool.proofs.ledger.LoanAtLemmas.{order_replaced, owners_replaced}
 use Rattle.ms_base.proofs.granules.GranuleGrowingLemmas.{meets_further}
 
 -- The chunk of a loan in a space, and what holds of it.
@@ -51,12 +46,12 @@ turned false false true f = refl
 turned false false false f = refl
 
 -- The loans of the ledger, with the chunk that is grown among them.
-record GrowsAt (old : Ledger) (space : Space) (owner : ℕ) (was : Chunk) : Type 0 where
-  loan : IsLoan owner was old.loans
-  here : is_in space was.start ≡ true
-  there : is_in (other_space space) was.start ≡ false
+pub record GrowsAt (old : Ledger) (space : Space) (owner : ℕ) (was : Chunk) : Type 0 where
+  pub loan : IsLoan owner was old.loans
+  pub here : is_in space was.start ≡ true
+  pub there : is_in (other_space space) was.start ≡ false
 
-grown_at : (old : Ledger) (account : AccountState) (was : Chunk) → Serves old account
+pub grown_at : (old : Ledger) (account : AccountState) (was : Chunk) → Serves old account
     → AreChunks account.space account.chunks
     → Contains account.chunks was
     → GrowsAt old account.space account.owner was
@@ -85,7 +80,7 @@ own_is_held old account was served chunks has = let at = grown_at old account wa
     (middle (chunks_in account.space at.loan.before) was (chunks_in account.space at.loan.after))
 
 -- The loans then, and those of the other space as before.
-new_at : (old : Ledger) (space : Space) (owner : ℕ) (was is : Chunk) (at : GrowsAt old space owner was)
+pub new_at : (old : Ledger) (space : Space) (owner : ℕ) (was is : Chunk) (at : GrowsAt old space owner was)
     → IsSoundLedger old
     → is.start ≡ was.start
     → replaced is old.loans ≡ at.loan.before ++ record { owner = owner; chunk = is } ∷ at.loan.after
@@ -210,133 +205,3 @@ grown_is_sound old account was is sound served chunks has greater =
     count = count_with_front pool (chunks_in space loans) pool.slots is (sound.spaces space) greater.placed
         greater.front.some greater.front.within
         (sound.spaces space).slots reserved (committed_in_slots pool (sound.spaces space)) adds
-
--- The account with a greater chunk at a place.
-abbrev pub with_greater : AccountState → ℕ → Chunk → AccountState
-with_greater account place chunk = record account { chunks = slice_set account.chunks place chunk }
-
-pub grown_serves : (old : Ledger) (account : AccountState) (place : ℕ) (was is : Chunk) → Serves old account
-    → AreChunks account.space account.chunks
-    → slice_get account.chunks place ≡ Some was → is.start ≡ was.start
-    → Serves (with_grown old is) (with_greater account place is)
-grown_serves old account place was is served chunks found same = record {
-  some = served.some;
-  given = served.given;
-  chunks = subst (λ (l : List Chunk). IsPermutation (chunks_of (with_grown old is) account.owner) l)
-      (swapped_at account.chunks place was is same chunks.apart found)
-      (subst (λ (l : List Chunk). IsPermutation l (map (swapped is) account.chunks))
-      (sym (owned_by-replaced account.owner is old.loans))
-      (IsPermutation-map (swapped is) (chunks_of old account.owner) account.chunks served.chunks));
-}
-
--- What others have stays.
-pub grown_keeps_others : (old : Ledger) (account : AccountState) (was is : Chunk) (other : ℕ) → IsSoundLedger old
-    → Serves old account
-    → AreChunks account.space account.chunks → Contains account.chunks was → is.start ≡ was.start
-    → other ≢ account.owner
-    → chunks_of (with_grown old is) other ≡ chunks_of old other
-grown_keeps_others old account was is other sound served chunks has same differs =
-    ap (owned_by other) (new_at old account.space account.owner was is at sound same)
-    ∙ owned_by-other other at.loan.before (record { owner = account.owner; chunk = is }) at.loan.after
-    (λ e. differs (sym e))
-    ∙ sym (ap (owned_by other) at.loan.is
-    ∙ owned_by-other other at.loan.before (record { owner = account.owner; chunk = was }) at.loan.after
-    (λ e. differs (sym e)))
-  where
-    at : GrowsAt old account.space account.owner was
-    at = grown_at old account was served chunks has
-
--- The account's chunks with the greater one.
-pub grown_are_chunks : (old : Ledger) (account : AccountState) (place : ℕ) (was is : Chunk) → Serves old account
-    → AreChunks account.space account.chunks → slice_get account.chunks place ≡ Some was
-    → IsGreater (state_in account.space old) was is
-    → AreChunks account.space (slice_set account.chunks place is)
-grown_are_chunks old account place was is served chunks found greater = record {
-  parts = All-set (λ (one : Chunk). IsPart one.start one.level) account.chunks place is greater.placed chunks.parts;
-  inside = All-set (λ (one : Chunk). IsSlotOf account.space (slot_of one.start)) account.chunks place is
-      (subst (λ (s : ℕ). IsSlotOf account.space (slot_of s)) (sym greater.start)
-      (All-contains (λ (one : Chunk). IsSlotOf account.space (slot_of one.start)) account.chunks was chunks.inside
-      has)) chunks.inside;
-  fronts = All-set (λ (one : Chunk). (1 ≤ one.front) × (one.front ≤ size_of one.level)) account.chunks place is
-      (greater.front.some, greater.front.within) chunks.fronts;
-  apart = rw parted.new
-      (grown_is_apart parted.before was is parted.after low greater.start (rw parted.old at chunks.apart)
-      (rw parted.old at own));
-  few = omega (arith, length-set account.chunks place is, chunks.few);
-}
-  where
-    has : Contains account.chunks was
-    has = contains_at account.chunks place was found
-
-    parted : Parted account.chunks place was is
-    parted = parted_at account.chunks place was is found
-
-    low : was.level ≤ highest_level
-    low = (All-contains (λ (one : Chunk). IsPart one.start one.level) account.chunks was chunks.parts has).0
-
-    own : GrowsClear account.chunks was is
-    own = elim greater.clear [
-      | inl level ↦ inl level
-      | inr parent ↦
-          inr (parent.0, own_clear old account (was.start + size_of was.level) was.level served chunks parent.1)
-    ]
-
--- All that a grown chunk leaves.
-pub record GrownWell (old : Ledger) (account : AccountState) (place : ℕ) (was is : Chunk) (total : ℕ)
-    (may_enlarge : Bool) : Type 0 where
-  pub sound : IsSoundLedger (with_grown old is)
-  pub served : Serves (with_grown old is) (with_greater account place is)
-  pub others : (other : AccountState) → other.owner ≢ account.owner → Serves old other
-      → Serves (with_grown old is) other
-  pub chunks : AreChunks account.space (slice_set account.chunks place is)
-  pub start : is.start ≡ was.start
-  pub reaches : is ≡ reaching old.limits.policy was total
-  pub grows : Grows old.limits.policy was.start total may_enlarge account (span_of is) (with_greater account place is)
-
-pub grown_well : (old : Ledger) (account : AccountState) (place : ℕ) (was is : Chunk) (total : ℕ) (may_enlarge : Bool)
-    → IsSoundLedger old
-    → Serves old account
-    → AreChunks account.space account.chunks → slice_get account.chunks place ≡ Some was
-    → grown (state_in account.space old) was total may_enlarge ≡ Ok is
-    → GrownWell old account place was is total may_enlarge
-grown_well old account place was is total may_enlarge sound served chunks found answered = record {
-  sound = grown_is_sound old account was is sound served chunks has greater;
-  served = grown_serves old account place was is served chunks found greater.start;
-  others = λ other differs its. record {
-    some = its.some;
-    given = its.given;
-    chunks = subst (λ (l : List Chunk). IsPermutation l other.chunks)
-        (sym (grown_keeps_others old account was is other.owner sound served chunks has greater.start differs))
-        its.chunks;
-  };
-  chunks = grown_are_chunks old account place was is served chunks found greater;
-  start = greater.start;
-  reaches = reached.is_reaching;
-  grows = record {
-    place = place;
-    chunk = was;
-    found = found;
-    starts = refl;
-    enlarged = reached.enlarged;
-    answer = ap span_of reached.is_reaching;
-    after = ap (with_greater account place) reached.is_reaching;
-  };
-}
-  where
-    has : Contains account.chunks was
-    has = contains_at account.chunks place was found
-
-    pool : PoolState
-    pool = state_in account.space old
-
-    held : Contains pool.held was
-    held = own_is_held old account was served chunks has
-
-    greater : IsGreater pool was is
-    greater = grown_is_greater pool was is total may_enlarge (sound.spaces account.space) held answered
-
-    reached : IsReached pool was is total may_enlarge
-    reached =
-        grown_reaches pool was is total may_enlarge
-        (All-contains (λ (one : Chunk). (1 ≤ one.front) × (one.front ≤ size_of one.level)) account.chunks was
-        chunks.fronts has).1 answered

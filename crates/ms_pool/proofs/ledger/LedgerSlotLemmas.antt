@@ -21,7 +21,8 @@ use Rattle.ms_base.specs.Committed.{granules_of}
 use Rattle.ms_base.specs.PoolSteps.Pick.{granule_in, has_committed}
 use Rattle.ms_base.specs.PoolSteps.Causes.{node_limit}
 use Rattle.ms_base.specs.PoolSteps.{slots_with}
-use Rattle.ms_base.proofs.granules.GranuleCountLemmas.{committed_in_slots, committed_with_slot, not_there}
+use Rattle.ms_base.proofs.granules.GranuleCountLemmas.{committed_in_slots}
+use Rattle.ms_base.proofs.granules.SlotGranuleLemmas.{committed_with_slot, not_there}
 use Rattle.ms_base.proofs.machine.SlotLemmas.{length_with, reserved_with, slots_rise_with}
 use Rattle.ms_pool.specs.Ledger.{Loan, Ledger, IsSoundLedger, state_in}
 use Rattle.ms_pool.proofs.ledger.SoundLemmas.{changed}

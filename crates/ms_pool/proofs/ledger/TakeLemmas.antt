@@ -18,7 +18,7 @@ use Rattle.ms_base.specs.Front.{front_for}
 use Rattle.ms_base.specs.State.{PoolState}
 use Rattle.ms_base.specs.PoolSteps.{taken}
 use Rattle.ms_base.proofs.free.PickLemmas.{picked_serves}
-use Rattle.ms_base.proofs.granules.NeedLemmas.{IsTaken, taken_is}
+use Rattle.ms_base.proofs.granules.TakingLimitLemmas.{IsTaken, taken_is}
 use Rattle.ms_base.proofs.runs.ApartLemmas.{apart-with}
 use Rattle.ms_pool.specs.Account.{AccountState, AreChunks}
 use Rattle.ms_pool.specs.Lending.{Adds, span_of}

@@ -25,8 +25,9 @@ use Rattle.ms_base.proofs.free.HalvesLemmas.{size_falls}
 use Rattle.ms_base.proofs.free.PickLemmas.{found_is_free_or_new, picked_serves}
 use Rattle.ms_base.proofs.free.RoomLemmas.{lowest_is_clear}
 use Rattle.ms_base.proofs.granules.FrontLemmas.{has_front_for}
-use Rattle.ms_base.proofs.granules.MissingLemmas.{lowest_is_not_reserved}
-use Rattle.ms_base.proofs.granules.NeedLemmas.{IsTaken, picked_is_part, taken_is, taking_keeps_the_limit}
+use Rattle.ms_base.proofs.granules.UnreservedLemmas.{lowest_is_not_reserved}
+use Rattle.ms_base.proofs.granules.TakingLimitLemmas.{IsTaken, taken_is, taking_keeps_the_limit}
+use Rattle.ms_base.proofs.granules.EnoughLemmas.{picked_is_part}
 use Rattle.ms_pool.proofs.ledger.FoundLemmas.{room_is_found, lowest_within, new_slot_is_clear}
 
 -- A slot in which a chunk may be lent: a reserved one, or one more.
@@ -111,7 +112,7 @@ pub taken_is_lendable : (pool : PoolState) (p m words : ℕ) (chunk : Chunk) →
 taken_is_lendable pool p m words chunk sound h k some fits is = subst (IsLendable pool) (sym its.is) (record {
   placed = picked_is_part pool p m words h k;
   front = has_front_for pool.limits.policy (picked pool p m words).start (picked pool p m words).level words some
-      (omega (arith, fits, size_falls (picked pool p m words).level m (picked_serves pool p m words h).1 k));
+      (omega (arith, fits, size_falls (picked pool p m words).level m (picked_serves pool p m words h).1));
   clear = lies.clear;
   slot = lies.slot;
   within = subst (λ (one : Chunk). committed_count pool + granules_missing pool one ≤ pool.limits.granules) its.is

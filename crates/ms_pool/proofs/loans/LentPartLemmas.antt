@@ -3,7 +3,6 @@ use Rattle.std.proofs.Common.{◌≡◌, ◌<◌, ◌≤◌, ℕ, ◌+◌, ◌*�
 use Rattle.std.proofs.Common.{arith, le-leb, lt-ltb}
 use Rattle.std.specs.Prelude.{nat_le, nat_lt, ◌^◌}
 use Rattle.std.proofs.lemmas.Bool.{and_from}
-use Rattle.std.specs.List.{All}
 use Rattle.ms_base.specs.declared.kind.Space.{Space}
 use Rattle.ms_base.specs.declared.kind.Space.TheVariants.{NonClass, Class}
 use Rattle.ms_base.specs.declared.policy.Policy.{Policy}
@@ -14,7 +13,7 @@ use Rattle.ms_base.specs.Level.{size_of}
 use Rattle.ms_base.specs.Part.{IsPart, is_reserved, slot_of}
 use Rattle.ms_base.specs.Policy.{granule_of, slot_granules}
 use Rattle.ms_base.specs.Held.{AreHeld}
-use Rattle.ms_base.specs.Spaces.{by_space, class_slots, first_class_slot}
+use Rattle.ms_base.specs.Spaces.{by_space, class_slots}
 use Rattle.ms_base.specs.Committed.{committed_with}
 use Rattle.ms_base.specs.PoolSteps.{slots_with}
 use Rattle.ms_base.proofs.free.HalvesLemmas.{size_falls}
@@ -23,18 +22,14 @@ use Rattle.ms_commit.specs.Nodes.{NodeLimits, NodesState, AreInReserved, AreSoun
 use Rattle.ms_commit.specs.Nodes.{granules_with, slots_of, with_granules}
 use Rattle.ms_commit.proofs.ModelLemmas.{is_among-meeting}
 use Rattle.ms_commit.proofs.RangeLemmas.{is_among-range}
-use Rattle.ms_buddy.specs.Leaves.{LentLeaf, AreLeaves}
 use Rattle.ms_pool.specs.declared.lender.Lender.{Lender}
-use Rattle.ms_pool.specs.declared.lent.Lent.{Lent}
-use Rattle.ms_pool.specs.Ledger.{Ledger, Loan, state_in, with_lent, with_loan, IsSoundLedger}
-use Rattle.ms_pool.specs.Keeping.{IsKept, IsOpen, IsRunOf, ledger_of, with_reserved, loans_from}
+use Rattle.ms_pool.specs.Ledger.{Ledger, Loan, state_in, with_lent, with_loan}
+use Rattle.ms_pool.specs.Keeping.{IsKept, IsOpen, IsRunOf, ledger_of, with_reserved}
 use Rattle.ms_pool.specs.Searching.{lacking}
 use Rattle.ms_pool.proofs.searches.LackLemmas.{lacks}
 use Rattle.ms_pool.proofs.ledger.LoanLemmas.{chunks_in}
 use Rattle.ms_pool.proofs.loans.LendLemmas.{LendsIn, committed_once_lent, front_in_slot}
 use Rattle.ms_pool.proofs.loans.OpenLemmas.{ReservesOne, own_in_space, reserves_one, slots_once_open, open_is_low}
-use Rattle.ms_pool.specs.Trees.{TreesState}
-use Rattle.ms_pool.specs.Placing.{MayBeLent}
 
 -- What callers see of a lender with other nodes and other loans.
 abbrev pub built : Lender → List Loan → List ℕ → List ℕ → List ℕ → NodeLimits → ℕ → Ledger
@@ -239,62 +234,4 @@ pub front_is_low : (space : Space) (lender : Lender) (chunk : Chunk) → IsKept 
     → IsOpen space lender.nodes (slot_of chunk.start) → chunk.start + chunk.front < 2 ^ 63
 front_is_low space lender chunk kept placed within open_ =
     let low = open_is_low space lender.nodes (slot_of chunk.start) kept.nodes kept.sound.nodes.1 open_ in
-    omega (arith, within, kept.nodes.class_slots, size_falls 0 chunk.level (omega arith) placed.0, low)
-
--- A lender with other nodes and other trees shows a ledger, and keeps what it kept.
-pub record Shows (lender : Lender) (nodes : NodesState) (items : List (List LentLeaf)) (ledger : Ledger) : Type 0 where
-  pub after : built_of lender nodes (loans_from 0 items) ≡ ledger
-  pub class_slots_are : nodes.class_slots ≡ lender.nodes.class_slots
-  pub limits : nodes.limits ≡ lender.nodes.limits
-
-pub kept_where_shown : (lender : Lender) (nodes : NodesState) (trees : TreesState) (ledger : Ledger) → IsKept lender
-    → length trees.items ≡ length lender.trees.items
-    → All AreLeaves trees.items → AreSound nodes → Shows lender nodes trees.items ledger → IsSoundLedger ledger
-    → IsKept (record lender { nodes = nodes; trees = trees })
-kept_where_shown lender nodes trees ledger kept count leaves sound_nodes shows sound = record {
-  trees = count ∙ kept.trees ∙ ap (λ (n : ℕ). 2 * (first_class_slot + n)) (sym shows.class_slots_are);
-  leaves = leaves;
-  granule = ap (λ (limits : NodeLimits). limits.granule) shows.limits ∙ kept.granule;
-  nodes = sound_nodes;
-  sound = subst IsSoundLedger (sym shows.after) sound;
-}
-
--- What is counted is no part of what is kept.
-pub kept_however_counted : (lender : Lender) (lent : Lent) → IsKept lender → IsKept (record lender { lent = lent })
-kept_however_counted lender lent kept =
-    record { trees = kept.trees; leaves = kept.leaves; granule = kept.granule; nodes = kept.nodes; sound = kept.sound }
-
--- The slot of a chunk is reserved and its front committed: the ledger has the chunk lent.
-nodes_are : (lender : Lender) (chunk : Chunk) (mid new : NodesState) (g : ℕ)
-    → mid ≡ with_reserved lender.nodes (slot_of chunk.start) → g ≡ granule_of lender.policy
-    → new ≡ with_granules mid (chunk.start / g) ((chunk.start + chunk.front - 1) / g + 1 - chunk.start / g)
-    → new ≡ with_front_of lender (with_reserved lender.nodes (slot_of chunk.start)) chunk
-nodes_are lender chunk mid new g same size made =
-    made ∙ ap
-    (λ (w : ℕ). with_granules mid (chunk.start / w) ((chunk.start + chunk.front - 1) / w + 1 - chunk.start / w))
-    size
-    ∙ ap (λ (n : NodesState). with_front_of lender n chunk) same
-
-pub lent_shows : (space : Space) (lender : Lender) (owner : ℕ) (chunk : Chunk) (mid nodes : NodesState)
-    (items : List (List LentLeaf)) (g : ℕ) → IsKept lender
-    → MayBeLent lender space owner chunk → mid ≡ with_reserved lender.nodes (slot_of chunk.start) → AreSound mid
-    → g ≡ granule_of lender.policy
-    → nodes ≡ with_granules mid (chunk.start / g) ((chunk.start + chunk.front - 1) / g + 1 - chunk.start / g)
-    → AreSound nodes
-    → loans_from 0 items ≡ with_loan (record { owner = owner; chunk = chunk }) (loans_from 0 lender.trees.items)
-    → Shows lender nodes items (with_lent (ledger_of lender) space owner chunk)
-lent_shows space lender owner chunk mid nodes items g kept may same sound_mid size made sound loans = record {
-  after = ap (λ (n : NodesState). built_of lender n (loans_from 0 items)) there
-      ∙ ap (λ (l : List Loan). built_of lender
-      (with_front_of lender (with_reserved lender.nodes (slot_of chunk.start)) chunk) l) loans
-      ∙ lent_ledger space lender owner chunk kept (subst AreSound same sound_mid) (subst AreSound there sound)
-      may.placed may.some may.within may.slot;
-  class_slots_are = ap (λ (n : NodesState). n.class_slots) there ∙ one.class_slots_are;
-  limits = ap (λ (n : NodesState). n.limits) there ∙ one.limits;
-}
-  where
-    there : nodes ≡ with_front_of lender (with_reserved lender.nodes (slot_of chunk.start)) chunk
-    there = nodes_are lender chunk mid nodes g same size made
-
-    one : ReservesOne lender.nodes (with_reserved lender.nodes (slot_of chunk.start)) (slot_of chunk.start)
-    one = reserves_one lender.nodes (slot_of chunk.start)
+    omega (arith, within, kept.nodes.class_slots, size_falls 0 chunk.level (omega arith), low)

@@ -12,7 +12,7 @@ use Rattle.ms_base.specs.declared.kind.Space.TheVariants.{NonClass, Class}
 use Rattle.ms_base.specs.Part.{is_reserved, slot_of}
 use Rattle.ms_base.specs.PoolSteps.Pick.{lowest_unreserved}
 use Rattle.ms_base.specs.Spaces.{by_space, class_slots, is_in, first_class_word}
-use Rattle.ms_base.proofs.granules.MissingLemmas.{lowest_is_not_reserved}
+use Rattle.ms_base.proofs.granules.UnreservedLemmas.{lowest_is_not_reserved}
 use Rattle.ms_commit.specs.NumberSet.{is_in_range}
 use Rattle.ms_commit.specs.Nodes.{NodesState, AreSound, all_slots, slots_of, with_slot}
 use Rattle.ms_commit.proofs.NodesLemmas.{member_below, reserved_either, reserved_low}

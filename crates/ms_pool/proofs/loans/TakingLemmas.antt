@@ -21,7 +21,7 @@ use Rattle.ms_base.proofs.free.PickLemmas.{picked_serves}
 use Rattle.ms_base.proofs.granules.FrontLemmas.{has_front_for}
 use Rattle.ms_base.proofs.granules.GranuleLemmas.{ends_in_node}
 use Rattle.ms_base.proofs.granules.MissingLemmas.{limit_by_missing, need_by_missing}
-use Rattle.ms_base.proofs.granules.NeedLemmas.{picked_is_part}
+use Rattle.ms_base.proofs.granules.EnoughLemmas.{picked_is_part}
 use Rattle.ms_commit.proofs.SpaceLemmas.{are_of_two_spaces}
 use Rattle.ms_pool.specs.declared.lender.Lender.{Lender}
 use Rattle.ms_pool.specs.Ledger.{state_in, Serves}
@@ -70,7 +70,7 @@ is_well_picked space lender p m words chunk kept h k some fits is open_ =
     let front =
     subst (λ (c : Chunk). HasFront lender.policy c) (sym is)
     (has_front_for lender.policy (picked pool p m words).start (picked pool p m words).level words some
-    (omega (arith, fits, size_falls (picked pool p m words).level m (picked_serves pool p m words h).1 k))) in
+    (omega (arith, fits, size_falls (picked pool p m words).level m (picked_serves pool p m words h).1))) in
     record {
       placed = part;
       some = front.some;

@@ -178,27 +178,27 @@ found_from pool words committed most from =
 
 pub decided_up : (pool : PoolState) (words : ℕ) (committed : Bool) (levels most number from level : ℕ)
     (whole found : Option Span) → GrantNone levels pool words committed → words ≤ size_of most
-    → number ≡ most → number ≤ 12 → from ≤ level → level < number + 1
+    → number ≡ most → from ≤ level → level < number + 1
     → ((k : ℕ) → from ≤ k → k < level → has_level levels k ≡ false)
     → whole ≡ found_from pool words committed most from → found ≡ first_at pool words committed level
     → whole ≡ option_or found (found_from pool words committed most (level + 1))
-decided_up pool words committed levels most number from level whole found told fits same real low high clear is one =
+decided_up pool words committed levels most number from level whole found told fits same low high clear is one =
     is ∙ past_levels (found_at pool words committed) from level (most + 1) low (omega (arith, same, high))
     (λ k past under. none_clear pool words committed levels k told
-    (omega (arith, fits, size_falls k most (omega (arith, under, same, high)) (omega (arith, same, real))))
+    (omega (arith, fits, size_falls k most (omega (arith, under, same, high))))
     (clear k past under))
     ∙ head_step (found_at pool words committed) level (most + 1) (omega (arith, same, high))
     ∙ ap (λ o. option_or o (found_from pool words committed most (level + 1)))
     (sym (one ∙ first_at-is pool words committed level))
 
 pub none_up : (pool : PoolState) (words : ℕ) (committed : Bool) (levels most number from : ℕ) (whole : Option Span)
-    → GrantNone levels pool words committed → words ≤ size_of most → number ≡ most → number ≤ 12
+    → GrantNone levels pool words committed → words ≤ size_of most → number ≡ most
     → ((k : ℕ) → from ≤ k → k < number + 1 → has_level levels k ≡ false)
     → whole ≡ found_from pool words committed most from → whole ≡ None
-none_up pool words committed levels most number from whole told fits same real clear is =
+none_up pool words committed levels most number from whole told fits same clear is =
     is ∙ no_level_left (found_at pool words committed) from (most + 1)
     (λ k low high. none_clear pool words committed levels k told
-    (omega (arith, fits, size_falls k most (omega (arith, high)) (omega (arith, same, real))))
+    (omega (arith, fits, size_falls k most (omega (arith, high))))
     (clear k low (omega (arith, same, high))))
 
 -- The same from below a level down to 0, where levels are told by how far below the top they are.
@@ -208,14 +208,14 @@ found_below pool words committed top end =
     (range_with_len (top + 1 - end) (top + 1 - (top + 1 - end)))) 0
 
 pub decided_down : (pool : PoolState) (words : ℕ) (committed : Bool) (levels top end level : ℕ)
-    (whole found : Option Span) → GrantNone levels pool words committed → words ≤ size_of top → top ≤ 12
+    (whole found : Option Span) → GrantNone levels pool words committed → words ≤ size_of top
     → end ≤ top + 1 → level < end → ((k : ℕ) → level < k → k < end → has_level levels k ≡ false)
     → whole ≡ found_below pool words committed top end → found ≡ first_at pool words committed level
     → whole ≡ option_or found (found_below pool words committed top level)
-decided_down pool words committed levels top end level whole found told fits real within below clear is one =
+decided_down pool words committed levels top end level whole found told fits within below clear is one =
     is ∙ past_levels from_top (top + 1 - end) (top - level) (top + 1) (omega (arith, within, below)) (omega arith)
     (λ k past under. none_clear pool words committed levels (top - k) told
-    (omega (arith, fits, size_falls (top - k) top (omega arith) real))
+    (omega (arith, fits, size_falls (top - k) top (omega arith)))
     (clear (top - k) (omega (arith, under)) (omega (arith, past, within, under))))
     ∙ head_step from_top (top - level) (top + 1) (omega arith)
     ∙ ap₂ option_or
@@ -233,13 +233,13 @@ decided_down pool words committed levels top end level whole found told fits rea
     next = omega (arith, within, below)
 
 pub none_down : (pool : PoolState) (words : ℕ) (committed : Bool) (levels top end : ℕ) (whole : Option Span)
-    → GrantNone levels pool words committed → words ≤ size_of top → top ≤ 12 → end ≤ top + 1
+    → GrantNone levels pool words committed → words ≤ size_of top → end ≤ top + 1
     → ((k : ℕ) → k < end → has_level levels k ≡ false) → whole ≡ found_below pool words committed top end
     → whole ≡ None
-none_down pool words committed levels top end whole told fits real within clear is =
+none_down pool words committed levels top end whole told fits within clear is =
     is ∙ no_level_left (λ below. found_at pool words committed (top - below)) (top + 1 - end) (top + 1)
     (λ k low high. none_clear pool words committed levels (top - k) told
-    (omega (arith, fits, size_falls (top - k) top (omega arith) real))
+    (omega (arith, fits, size_falls (top - k) top (omega arith)))
     (clear (top - k) (omega (arith, low, high, within))))
 
 pub down_first : (pool : PoolState) (words : ℕ) (committed : Bool) (top : ℕ)

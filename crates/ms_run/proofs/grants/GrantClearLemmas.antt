@@ -28,7 +28,7 @@ use Rattle.ms_base.specs.Run.Alone.{AddsOwnBlock}
 use Rattle.ms_base.proofs.entries.EntryLemmas.{Gap, gap_at}
 use Rattle.ms_base.proofs.runs.ApartLemmas.{list_all-rest_of}
 use Rattle.ms_base.proofs.arena.BlockLemmas.{is_run_in, run_in, runs_in_split, runs_in_joined, run_in_here}
-use Rattle.ms_base.proofs.machine.BackedLemmas.{middle_is_clear}
+use Rattle.ms_base.proofs.machine.BlocksApartLemmas.{middle_is_clear}
 use Rattle.ms_base.proofs.granules.GranuleLemmas.{ends_in_node}
 use Rattle.ms_arena.specs.Arena.{IsAskable}
 use Rattle.ms_loaders.specs.Loader.{LoaderView, IsSoundView, AllocatesBlock}

@@ -20,7 +20,8 @@ use Rattle.ms_loaders.specs.System.{machine_of, AreTogether}
 use Rattle.ms_loaders.proofs.steps.OutcomeLemmas.{Outcome, GrewAtAll, TookAtAll}
 use Rattle.ms_loaders.proofs.steps.AskedLemmas.{outcome}
 use Rattle.ms_loaders.proofs.steps.AlikeLemmas.{allocates_by}
-use Rattle.ms_loaders.proofs.steps.ServedLemmas.{apart_of, own_sound, length_changed}
+use Rattle.ms_loaders.proofs.steps.ServedLemmas.{apart_of, length_changed}
+use Rattle.ms_loaders.proofs.steps.StillTogetherLemmas.{own_sound}
 use Rattle.ms_loaders.proofs.steps.CallLemmas.{same_loaders}
 use Rattle.ms_loaders.proofs.steps.AllocStepLemmas.{reply_to, alloc_goes}
 use Rattle.ms_run.specs.Acts.{GrewSeen}

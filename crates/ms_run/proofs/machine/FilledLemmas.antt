@@ -15,7 +15,7 @@ use Rattle.ms_loaders.specs.System.{machine_of, accounts_of, AreTogether}
 use Rattle.ms_loaders.proofs.sums.FitLemmas.{machine_is_good}
 use Rattle.ms_loaders.proofs.steps.StepLemmas.{lacks_loader}
 use Rattle.ms_loaders.proofs.steps.CloseLemmas.{with_both, first_account, second_account, served_with, together_made, machine_made}
-use Rattle.ms_loaders.proofs.steps.CloseLemmas.{together_purged, machine_purged_is}
+use Rattle.ms_loaders.proofs.steps.PurgeStepLemmas.{together_purged, machine_purged_is}
 use Rattle.ms_loaders.proofs.steps.UnloadLemmas.{together_unloaded, is_unloaded}
 
 -- So many accounts are open in each space, and nothing was counted.

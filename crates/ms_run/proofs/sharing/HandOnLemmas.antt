@@ -1,36 +1,32 @@
 -- A loader handed on from seat to seat by its two accounts: each seat serves its own loaders before
 -- and after, and no owner is of both. For `hand_on`.
-use Rattle.std.proofs.Common.{◌≡◌, ◌≢◌, ◌≤◌, ◌+◌, ℕ, true, Some, None, List, [], ◌∷◌, ◌++◌, map, length, refl, sym, ap}
-use Rattle.std.proofs.Common.{◌∙◌, subst, ◌⊎◌, inl, inr, ⊎_elim, arith, ◌<◌, IsTrue, false}
+use Rattle.std.proofs.Common.{◌≡◌, ◌≢◌, ◌≤◌, ◌+◌, ℕ, true, Some, None, List, [], ◌∷◌, ◌++◌, map, length, sym, ap}
+use Rattle.std.proofs.Common.{◌∙◌, subst, ◌⊎◌, inl, inr, ⊎_elim, arith, ◌<◌, IsTrue}
 use Rattle.std.specs.List.{AllByRecursion}
-use Rattle.std.specs.Option.{is_some}
 use Rattle.std.specs.Ordering.{nat_cmp}
 use Rattle.std.specs.BTreeMap.{is_at}
 use Rattle.std.proofs.lemmas.List.{length-append, map-append}
 use Rattle.std.proofs.lemmas.List.Sums.{sum_by-append}
 use Rattle.std.proofs.lemmas.List.Elements.{recursion_from_All, All-from_recursion}
-use Rattle.std.proofs.lemmas.Option.{none-some}
 use Rattle.std.proofs.lemmas.Map.Views.{All-map-remove_entry, All-values-insert_entry}
 use Rattle.ms_base.specs.declared.kind.Space.{Space}
 use Rattle.ms_base.specs.declared.kind.Space.TheVariants.{NonClass, Class}
 use Rattle.ms_base.specs.declared.span.Chunk.{Chunk}
 use Rattle.ms_base.specs.Committed.{is_among}
-use Rattle.ms_base.specs.Names.{AreNamed, named, with_new, without}
+use Rattle.ms_base.specs.Names.{named, with_new, without}
 use Rattle.ms_base.proofs.entries.EntryLemmas.{Split, split_at, Gap, gap_at, rises_without}
 use Rattle.ms_base.proofs.entries.NameLemmas.{rises_with_new}
-use Rattle.ms_base.proofs.entries.LookupLemmas.{named_new_same, named_new_other, named_without_other}
-use Rattle.ms_base.proofs.events.SeenEntryLemmas.{named_without_same}
 use Rattle.ms_pool.specs.Account.{AccountState}
 use Rattle.ms_loaders.specs.Loader.{LoaderView, account_in, IsSoundView}
 use Rattle.ms_loaders.specs.System.{accounts_of, owners_of}
 use Rattle.ms_shared.specs.declared.lock_rule.SeatView.{SeatView}
 use Rattle.ms_shared.specs.Entries.{Has, only, all_but}
-use Rattle.ms_shared.specs.SeatView.{SeatState, ServesBy, opened_by, without_account, with_account}
+use Rattle.ms_shared.specs.SeatView.{ServesBy, opened_by, without_account, with_account}
 use Rattle.ms_shared.proofs.HandLemmas.{handed_serves, left_serves, taker_serves}
-use Rattle.ms_run.specs.Dealing.{Loaded, AreBeside, IsHanded}
-use Rattle.ms_loaders.proofs.steps.CallLemmas.{missing}
+use Rattle.ms_run.specs.Dealing.{Loaded, AreBeside}
 use Rattle.ms_loaders.proofs.steps.CloseLemmas.{accounts_joined}
-use Rattle.ms_loaders.proofs.steps.ServedLemmas.{accounts_split, all_joined, all_parts, is_it, it_is, named_sound}
+use Rattle.ms_loaders.proofs.steps.ServedLemmas.{accounts_split, all_joined, all_parts, is_it, it_is}
+use Rattle.ms_loaders.proofs.steps.StillTogetherLemmas.{named_sound}
 use Rattle.ms_loaders.proofs.steps.ServedLemmas.{owners_split}
 use Rattle.ms_loaders.proofs.steps.ServedLemmas.{served_still, times, times_split}
 use Rattle.ms_loaders.proofs.sums.FitLemmas.{owner_of}
@@ -269,40 +265,3 @@ module _ (name : ℕ) (v : LoaderView) (loaders others : Loaded) (from to : Seat
       };
       apart = apart_still;
     }
-
--- The same, by what the calls say.
-pub beside_after : (name : ℕ) (v : LoaderView) (loaders others after others_after : Loaded)
-    (from to from_end to_end : SeatState)
-    → named loaders name ≡ Some v → named others name ≡ None → AreBeside from.knows loaders to.knows others
-    → from_end ≡ record from {
-      knows = without_account v.class_owner Class (without_account v.owner NonClass from.knows);
-    }
-    → to_end ≡ record to {
-      knows = with_account v.class_owner Class (without_account v.owner NonClass from.knows)
-          (with_account v.owner NonClass from.knows to.knows);
-    }
-    → after ≡ without loaders name → others_after ≡ with_new others name v
-    → AreBeside from_end.knows after to_end.knows others_after
-beside_after name v loaders others after others_after from to from_end to_end found none its from_is to_is left made =
-    rw (ap (λ (s : SeatState). s.knows) from_is, ap (λ (s : SeatState). s.knows) to_is, left, made)
-    (handed name v loaders others from.knows to.knows found its none)
-
--- What has a name then.
-pub handed_names : (name : ℕ) (v : LoaderView) (loaders others after others_after : Loaded) → AreNamed loaders
-    → named loaders name ≡ Some v
-    → after ≡ without loaders name → others_after ≡ with_new others name v
-    → IsHanded name loaders others after others_after
-handed_names name v loaders others after others_after names found left made = rw (left, made) (record {
-  gone = named_without_same loaders name names;
-  there = inl ((λ none. none-some v (sym none ∙ found)), named_new_same others name v ∙ sym found);
-  stay = λ other differ. (named_without_other loaders name other differ, named_new_other others name v other differ);
-})
-
--- Where no loader has the name, all stays.
-pub none_handed : (name : ℕ) (loaders others : Loaded) → is_some (named loaders name) ≡ false
-    → IsHanded name loaders others loaders others
-none_handed name loaders others none = record {
-  gone = missing (named loaders name) none;
-  there = inr (missing (named loaders name) none, refl);
-  stay = λ other differ. (refl, refl);
-}

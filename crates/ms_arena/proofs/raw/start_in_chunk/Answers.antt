@@ -10,7 +10,7 @@ returns-in-Ok-clause-looked g c =
       rest = c.in-Ok.ensures.rest;
       leaves = grown_leaves _ _ c.args.books.now c.in-Some.chunk c.in-Some.total c.in-Some.may_enlarge c.args.source.now _ _
           c.args.n _ c.in-Ok.ensures.grown
-          (c.in-Ok.ensures.awaits _ c.args.n (omega (arith, asks.total_is)) asks.total_is);
+          (c.in-Ok.ensures.awaits _ c.args.n (omega (arith, asks.total_is)) asks.total_is) c.in-Ok.ensures.chunks;
     }
 
 pub returns-in-Ok-clause-asks : goal.returns-in-Ok-clause-asks

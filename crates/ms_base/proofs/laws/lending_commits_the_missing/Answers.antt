@@ -1,4 +1,4 @@
-use Rattle.ms_base.proofs.granules.GranuleCountLemmas.{lending_commits_the_missing}
+use Rattle.ms_base.proofs.granules.SlotGranuleLemmas.{lending_commits_the_missing}
 use Rattle.ms_base.proofs.laws.lending_commits_the_missing.Goals as goal
 
 pub returns : goal.returns

@@ -1,4 +1,4 @@
-use Rattle.ms_base.proofs.granules.NeedLemmas.{taking_keeps_the_limit}
+use Rattle.ms_base.proofs.granules.TakingLimitLemmas.{taking_keeps_the_limit}
 use Rattle.ms_base.proofs.laws.taking_keeps_the_limit.Goals as goal
 
 pub returns : goal.returns

@@ -1,7 +1,7 @@
 use Rattle.std.proofs.Common.{◌∙◌, ◌*◌, ◌%◌, ◌^◌, ap, arith, bit_or, sym}
 use Rattle.std.proofs.lemmas.Option.{slice_get-get_or}
 use Rattle.ms_blocks.specs.Classes.{class_of}
-use Rattle.ms_blocks.proofs.ClassLemmas.{InsertsAmong, inserts_among}
+use Rattle.ms_blocks.proofs.ClassChangeLemmas.{InsertsAmong, inserts_among}
 use Rattle.ms_blocks.proofs.classes.insert_in.Given.{Over}
 use Rattle.ms_blocks.proofs.classes.insert_in.Goals as goal
 use Rattle.ms_blocks.proofs.classes.insert_in.Goals.{After-insert}

@@ -1,6 +1,7 @@
 use Rattle.std.proofs.Common.{◌≡◌, [], arith, refl, rules, subst, sym}
 use Rattle.ms_blocks.specs.Classes.{AreClassed, all_of}
-use Rattle.ms_blocks.proofs.ClassLemmas.{classed_more, none_more, tells_none}
+use Rattle.ms_blocks.proofs.ClassLemmas.{classed_more, none_more}
+use Rattle.ms_blocks.proofs.ClassChangeLemmas.{tells_none}
 use Rattle.ms_blocks.proofs.classes.make_trees.Goals as goal
 
 pub loop-preserved : goal.loop-preserved

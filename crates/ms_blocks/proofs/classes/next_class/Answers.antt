@@ -1,7 +1,7 @@
 use Rattle.std.proofs.Common.{◌+◌, ◌∙◌, arith, subst, sym, w64}
 use Rattle.std.specs.Int.{trailing_zeros}
 use Rattle.ms_blocks.specs.Classes.{IsNextClass}
-use Rattle.ms_blocks.proofs.ClassLemmas.{half, is_next, none_later}
+use Rattle.ms_blocks.proofs.ClassBitLemmas.{half, is_next, none_later}
 use Rattle.ms_blocks.proofs.classes.next_class.Goals as goal
 
 pub returns-then-later-eq0-clause-none : goal.returns-then-later-eq0-clause-none

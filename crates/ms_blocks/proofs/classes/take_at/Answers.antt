@@ -2,7 +2,9 @@ use Rattle.std.proofs.Common.{◌<◌, ◌∙◌, Some, ap, arith, get_or-set_sa
 use Rattle.std.proofs.lemmas.Option.{slice_get-get_or}
 use Rattle.ms_blocks.specs.Tree.{blocks_of}
 use Rattle.ms_blocks.specs.declared.tree.Tree.{Tree}
-use Rattle.ms_blocks.proofs.ClassLemmas.{TakesFit, bit_few, none_here, one_where_some, ranked_at, takes_fit, tells_whether}
+use Rattle.ms_blocks.proofs.ClassLemmas.{ranked_at}
+use Rattle.ms_blocks.proofs.ClassChangeLemmas.{TakesFit, none_here, one_where_some, takes_fit, tells_whether}
+use Rattle.ms_blocks.proofs.ClassBitLemmas.{bit_few}
 use Rattle.ms_blocks.proofs.classes.take_at.Given.{Over}
 use Rattle.ms_blocks.proofs.classes.take_at.Goals as goal
 use Rattle.ms_blocks.proofs.classes.take_at.Goals.{After-told_again}

@@ -2,7 +2,7 @@
 use Rattle.std.proofs.Common.{◌≡◌, None, sym}
 use Rattle.ms_blocks.specs.Classes.{all_of}
 use Rattle.ms_blocks.specs.Rank.{first_fit}
-use Rattle.ms_blocks.proofs.ClassLemmas.{found_next, left_next, next_fits, none_at_all, none_below, none_to_next}
+use Rattle.ms_blocks.proofs.ClassChangeLemmas.{found_next, left_next, next_fits, none_at_all, none_below, none_to_next}
 use Rattle.ms_blocks.proofs.RankLemmas.{without_fit-none}
 use Rattle.ms_blocks.proofs.classes.take_in.Given.{Over}
 use Rattle.ms_blocks.proofs.classes.take_in.Goals as goal

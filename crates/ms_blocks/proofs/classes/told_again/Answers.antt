@@ -1,6 +1,6 @@
 use Rattle.std.proofs.Common.{w64}
 use Rattle.std.proofs.lemmas.Nat.Bits.{bit_at_clear_same}
-use Rattle.ms_blocks.proofs.ClassLemmas.{bit_others}
+use Rattle.ms_blocks.proofs.ClassBitLemmas.{bit_others}
 use Rattle.ms_blocks.proofs.classes.told_again.Goals as goal
 
 pub returns-then-is_empty-clause-here : goal.returns-then-is_empty-clause-here

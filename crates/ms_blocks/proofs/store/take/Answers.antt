@@ -1,6 +1,6 @@
 use Rattle.std.proofs.Common.{ap, arith, length, ◌∙◌}
 use Rattle.ms_blocks.specs.Classes.{all_of}
-use Rattle.ms_blocks.proofs.ClassLemmas.{lent_back}
+use Rattle.ms_blocks.proofs.ClassChangeLemmas.{lent_back}
 use Rattle.ms_blocks.proofs.RankLemmas.{length_without, without_fit-none}
 use Rattle.ms_blocks.proofs.store.take.Goals as goal
 

@@ -5,11 +5,11 @@ use Rattle.ms_pool.proofs.search.small_levels.Goals as goal
 
 pub returns-in-Aggressive : goal.returns-in-Aggressive
 returns-in-Aggressive c = λ level few clear.
-    rw (c.in-Aggressive.is) (size_falls level 8 (omega (arith, below_small 9 level few clear)) (omega arith))
+    rw (c.in-Aggressive.is) (size_falls level 8 (omega (arith, below_small 9 level few clear)))
 
 pub returns-in-Balanced : goal.returns-in-Balanced
 returns-in-Balanced c = λ level few clear.
-    let large = size_falls level 6 (omega (arith, below_small 7 level few clear)) (omega arith) in
+    let large = size_falls level 6 (omega (arith, below_small 7 level few clear)) in
     elim c.in-Balanced.is [
       | inl is ↦ rw is large
       | inr is ↦ rw is large

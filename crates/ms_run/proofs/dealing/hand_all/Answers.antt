@@ -2,7 +2,7 @@ use Rattle.std.proofs.Common.{◌∙◌, ◌≡◌, ◌+◌, ap, arith, drop, le
 use lib.Seq.{drop-length}
 use Rattle.ms_run.specs.Shares.{name_with, names_in}
 use Rattle.ms_run.proofs.sharing.HandingLemmas.{IsHanding, handing_starts, handing_on, handing_ends}
-use Rattle.ms_run.proofs.sharing.HandOnLemmas.{none_handed}
+use Rattle.ms_run.proofs.sharing.HandedNamesLemmas.{none_handed}
 use Rattle.ms_run.proofs.sharing.StandByLemmas.{names_from}
 use Rattle.ms_run.proofs.sharing.DealLemmas.{same_then}
 use Rattle.ms_run.proofs.dealing.hand_all.Goals as goal

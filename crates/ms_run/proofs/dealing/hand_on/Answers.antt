@@ -1,7 +1,8 @@
 use Rattle.std.proofs.Common.{◌∙◌, sym, ap}
 use Rattle.ms_shared.specs.SeatView.{SeatState}
-use Rattle.ms_run.proofs.sharing.HandOnLemmas.{beside_after, serves_first, serves_second, counts_first, counts_second}
-use Rattle.ms_run.proofs.sharing.HandOnLemmas.{handed_names}
+use Rattle.ms_run.proofs.sharing.HandOnLemmas.{serves_first, serves_second, counts_first, counts_second}
+use Rattle.ms_run.proofs.sharing.HandedNamesLemmas.{beside_after}
+use Rattle.ms_run.proofs.sharing.HandedNamesLemmas.{handed_names}
 use Rattle.ms_run.proofs.metered.DealtUseLemmas.{used_handed}
 use Rattle.ms_run.proofs.dealing.hand_on.Goals as goal
 

@@ -4,7 +4,7 @@ use Rattle.std.proofs.lemmas.List.Elements.{recursion_from_All}
 use Rattle.ms_base.specs.Names.{AreNamed}
 use Rattle.ms_run.specs.Shares.{IsMannedShare}
 use Rattle.std.proofs.lemmas.List.{nil_from_length}
-use Rattle.ms_run.proofs.sharing.GatherLemmas.{begin_apart, next_differs, still_differ}
+use Rattle.ms_run.proofs.sharing.DifferLemmas.{begin_apart, next_differs, still_differ}
 use Rattle.ms_run.proofs.sharing.TakenApartLemmas.{taken_none, taken_more, all_taken}
 use Rattle.ms_run.proofs.gathering.take_apart.Goals as goal
 

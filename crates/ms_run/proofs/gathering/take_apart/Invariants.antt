@@ -2,7 +2,7 @@ use Rattle.std.proofs.Common.{◌+◌, ◌≤◌, length, vec_len, vec_capacity}
 use Rattle.std.specs.List.{AllByRecursion}
 use Rattle.ms_base.specs.Names.{AreNamed}
 use Rattle.ms_run.specs.Shares.{IsMannedShare}
-use Rattle.ms_run.proofs.sharing.GatherLemmas.{AreOthers}
+use Rattle.ms_run.proofs.sharing.DifferLemmas.{AreOthers}
 use Rattle.ms_run.proofs.sharing.TakenApartLemmas.{AreTaken}
 use Rattle.ms_run.proofs.gathering.take_apart.Given as goal
 

@@ -1,6 +1,7 @@
 use Rattle.ms_base.specs.Hashed.{by_name}
 use Rattle.ms_arena.specs.Raw.{live_in}
-use Rattle.ms_arena.proofs.ArenaLemmas.{enters, live_same}
+use Rattle.ms_arena.proofs.ArenaLemmas.{live_same}
+use Rattle.ms_arena.proofs.EnterLemmas.{enters}
 use Rattle.ms_arena.proofs.arena.Arena.alloc.Goals as goal
 
 pub invariant_of-self-in-Ok : goal.invariant_of-self-in-Ok

@@ -1,7 +1,8 @@
 use Rattle.std.proofs.Common.{refl}
 use Rattle.ms_base.specs.Hashed.{by_name}
 use Rattle.ms_base.proofs.entries.EntryLemmas.{split_at}
-use Rattle.ms_arena.proofs.ArenaLemmas.{goes, is_live, is_not_live}
+use Rattle.ms_arena.proofs.ArenaLemmas.{is_live, is_not_live}
+use Rattle.ms_arena.proofs.EnterLemmas.{goes}
 use Rattle.ms_arena.proofs.HoldLemmas.{may_free}
 use Rattle.ms_arena.proofs.arena.Arena.free.Goals as goal
 

@@ -3,7 +3,7 @@ use Rattle.ms_base.specs.Hashed.{by_name}
 use Rattle.ms_arena.specs.Raw.{contents_at}
 use Rattle.ms_arena.specs.Words.{value_at}
 use Rattle.ms_arena.proofs.ArenaLemmas.{is_live, refused_so, word_is_there}
-use Rattle.ms_arena.proofs.HoldLemmas.{word_in_contents}
+use Rattle.ms_arena.proofs.ContentsLemmas.{word_in_contents}
 use Rattle.ms_arena.proofs.arena.Arena.read.Goals as goal
 
 pub returns-in_err-check_word-clause-refused : goal.returns-in_err-check_word-clause-refused

@@ -3,11 +3,11 @@ use Rattle.std.specs.Prelude.{slice_index}
 use Rattle.ms_base.specs.Place.{current_top, with_top}
 use Rattle.ms_pool.specs.Lending.{reaching}
 use Rattle.ms_arena.specs.Alloc.{with_current}
-use Rattle.ms_base.specs.Good.{IsSound}
-use Rattle.ms_arena.specs.Books.{BooksView, account_in}
+use Rattle.ms_arena.specs.Books.{AwaitsBlock, BooksView, account_in}
 use Rattle.ms_arena.proofs.ChunkLemmas.{has_its_start, last_there}
-use Rattle.ms_arena.proofs.BookLemmas.{GrowsCurrent, books_small, current_in, grows_current, grown_awaits, books_grown}
-use Rattle.ms_arena.proofs.BookLemmas.{grown_view}
+use Rattle.ms_arena.proofs.BookLemmas.{books_small}
+use Rattle.ms_arena.proofs.BookGrowLemmas.{GrowsCurrent, current_in, grows_current, grown_awaits, books_grown}
+use Rattle.ms_arena.proofs.BookGrowLemmas.{grown_view}
 use Rattle.ms_arena.proofs.books.Books.grow.Given.{Over}
 use Rattle.ms_arena.proofs.books.Books.grow.Goals as goal
 use Rattle.ms_arena.proofs.books.Books.grow.Goals.{After-raise}
@@ -76,12 +76,20 @@ returns-clause-grown g c = record {
 }
 
 pub returns-clause-awaits : goal.returns-clause-awaits
-returns-clause-awaits g c = λ start n starts sum live sound.
-    grown_awaits _ _ _ _ c.args.total n (c.held.result - 1) start c.args.chunk c.self.inside.account c.grow.new.account
+returns-clause-awaits g c = λ start n starts sum.
+    subst (λ (books : BooksView). AwaitsBlock books.state
+    (record {
+      chunks = c.grow.new.account.chunks;
+      tops = c.raise.new.tops.items;
+      kept = c.self.inside.kept.kept;
+    }) start n) c.self.view_is
+    (grown_awaits _ _ _ _ c.args.total n (c.held.result - 1) start c.args.chunk c.self.inside.account c.grow.new.account
     c.raise.new.tops.items c.self.invariant (grown g c)
     c.in_ok-grow.ensures.holds
     (subst (λ (books : BooksView). c.args.total ≡ current_top books.state + n) (sym c.self.view_is) sum)
     (omega (arith, sum, c.requires.may.more))
     (subst (λ (books : BooksView). start ≡ c.args.chunk.start + current_top books.state) (sym c.self.view_is) starts)
-    (ap (λ (h : ℕ). h - 1) c.held.ensures.count) c.raise.ensures.tops
-    live (subst (λ (books : BooksView). IsSound books.state live) (sym c.self.view_is) sound)
+    (ap (λ (h : ℕ). h - 1) c.held.ensures.count) c.raise.ensures.tops)
+
+pub returns-clause-chunks : goal.returns-clause-chunks
+returns-clause-chunks g c = c.in_ok-grow.ensures.holds

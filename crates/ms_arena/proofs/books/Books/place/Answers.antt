@@ -1,11 +1,11 @@
 use Rattle.std.proofs.Common.{◌≤◌, ◌+◌, ◌-◌, ◌∙◌, ap, arith, subst, sym, ℕ}
 use Rattle.std.specs.Prelude.{slice_index}
 use Rattle.ms_base.specs.Place.{placed, tops_with}
-use Rattle.ms_base.specs.Good.{IsSound}
+use Rattle.ms_base.specs.State.{ArenaState}
 use Rattle.ms_arena.specs.Kept.{KeptView}
-use Rattle.ms_arena.specs.Books.{BooksView, Awaits}
+use Rattle.ms_arena.specs.Books.{AwaitsBlock, BooksView}
 use Rattle.ms_arena.proofs.BookLemmas.{books_small, free_awaits, kept_below, books_placed_free, top_awaits, books_placed_at_top}
-use Rattle.ms_arena.proofs.BookLemmas.{placed_at_top, same_books, same_sound}
+use Rattle.ms_arena.proofs.BookLemmas.{placed_at_top, same_books}
 use Rattle.ms_arena.proofs.ChunkLemmas.{last_there}
 use Rattle.ms_arena.proofs.books.Books.place.Goals as goal
 
@@ -17,10 +17,18 @@ invariant_of-self c =
     books_placed_free _ _ _ c.args.n c.in-Some.start _ c.self.invariant c.in-Some.ensures.placed c.requires.some
 
 pub returns-in-Some-clause-awaits : goal.returns-in-Some-clause-awaits
-returns-in-Some-clause-awaits c = λ live sound.
-    free_awaits _ _ _ c.args.n c.in-Some.start c.place_free.new.kept.kept c.self.invariant c.in-Some.ensures.placed
-    c.requires.some
-    live (subst (λ (books : BooksView). IsSound books.state live) (sym c.self.view_is) sound)
+returns-in-Some-clause-awaits c =
+    subst (λ (books : BooksView). AwaitsBlock books.state
+    (record {
+      chunks = c.self.inside.account.chunks;
+      tops = c.self.inside.tops.items;
+      kept = c.place_free.new.kept.kept;
+    }) c.in-Some.start c.args.n) c.self.view_is
+    (free_awaits _ _ _ c.args.n c.in-Some.start c.place_free.new.kept.kept c.self.invariant c.in-Some.ensures.placed
+    c.requires.some)
+
+pub returns-in-Some-clause-chunks : goal.returns-in-Some-clause-chunks
+returns-in-Some-clause-chunks c = c.self.invariant.chunks
 
 pub overflow_sub-last : goal.overflow_sub-last
 overflow_sub-last c =
@@ -59,13 +67,12 @@ invariant_of-self-3 c =
     c.raise.ensures.counted.used
 
 pub returns-clause-awaits : goal.returns-clause-awaits
-returns-clause-awaits c = λ live sound.
-    subst (λ (t : ℕ). Awaits
-    (record {
-      chunks = c.self.inside.account.chunks;
-      tops = c.raise.new.tops.items;
-      kept = c.place_free.new.kept.kept;
-    }) live (c.in_ok-chunk.chunk.start + t, c.args.n))
+returns-clause-awaits c =
+    subst (λ (books : BooksView). AwaitsBlock books.state after (c.in_ok-chunk.chunk.start + c.in_ok-chunk.top) c.args.n)
+    c.self.view_is
+    (subst (λ (k : KeptView). AwaitsBlock (before k) after (c.in_ok-chunk.chunk.start + c.in_ok-chunk.top) c.args.n)
+    c.in_default.ensures.unchanged
+    (subst (λ (t : ℕ). AwaitsBlock (before c.place_free.new.kept) after (c.in_ok-chunk.chunk.start + t) c.args.n)
     (sym c.in_ok-chunk.ensures.top)
     (top_awaits _ _ _ c.args.n (c.held.result - 1) c.in_ok-chunk.chunk _
     (same_books _ _ _ _ _ c.place_free.new.kept c.in_default.ensures.unchanged c.self.invariant)
@@ -74,9 +81,20 @@ returns-clause-awaits c = λ live sound.
     (ap (λ (h : ℕ). h - 1) c.held.ensures.count)
     (c.raise.ensures.tops
     ∙ ap (λ (t : ℕ). tops_with c.self.inside.tops.items (c.held.result - 1) (t + c.args.n))
-    c.in_ok-chunk.ensures.top)
-    live (same_sound _ _ live _ c.place_free.new.kept c.in_default.ensures.unchanged
-    (subst (λ (books : BooksView). IsSound books.state live) (sym c.self.view_is) sound)))
+    c.in_ok-chunk.ensures.top))))
+  where
+    before : KeptView → ArenaState
+    before k = record { chunks = c.self.inside.account.chunks; tops = c.self.inside.tops.items; kept = k.kept }
+
+    after : ArenaState
+    after = record {
+      chunks = c.self.inside.account.chunks;
+      tops = c.raise.new.tops.items;
+      kept = c.place_free.new.kept.kept;
+    }
+
+pub returns-clause-chunks : goal.returns-clause-chunks
+returns-clause-chunks c = c.self.invariant.chunks
 
 pub returns-clause-placed : goal.returns-clause-placed
 returns-clause-placed c =

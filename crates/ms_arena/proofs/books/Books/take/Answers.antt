@@ -1,10 +1,10 @@
-use Rattle.std.proofs.Common.{rules, ◌∙◌, Ok, refl, ap, arith, subst, sym}
-use Rattle.ms_base.specs.Good.{IsSound}
+use Rattle.std.proofs.Common.{rules, ◌∙◌, Ok, refl, ap, arith, subst}
 use Rattle.ms_base.specs.Place.{with_taken}
 use Rattle.ms_pool.specs.Lending.{chunk_at}
-use Rattle.ms_arena.specs.Books.{BooksView, account_in}
+use Rattle.ms_arena.specs.Books.{AwaitsBlock, BooksView, account_in}
 use Rattle.ms_arena.proofs.ChunkLemmas.{size_small}
-use Rattle.ms_arena.proofs.BookLemmas.{Taken, books_small, former_of, may_retire, taken_books, books_taken}
+use Rattle.ms_arena.proofs.BookLemmas.{books_small}
+use Rattle.ms_arena.proofs.BookTakeLemmas.{Taken, former_of, may_retire, taken_books, books_taken}
 use Rattle.ms_arena.proofs.books.Books.take.Given.{Over}
 use Rattle.ms_arena.proofs.books.Books.take.Goals as goal
 use Rattle.ms_arena.proofs.books.Books.take.Goals.{After-push_reserved}
@@ -65,8 +65,13 @@ returns-clause-taken g c = record {
 
 pub returns-clause-leaves : goal.returns-clause-leaves
 returns-clause-leaves g c = record {
-  awaits = λ live sound. (taken g c).awaits live
-      (subst (λ (books : BooksView). IsSound books.state live) (sym c.self.view_is) sound);
+  awaits = subst (λ (books : BooksView). AwaitsBlock books.state
+      (record {
+        chunks = c.take.new.account.chunks;
+        tops = c.push_reserved.new.self.items;
+        kept = c.retire.new.kept.kept;
+      }) c.in_ok-span.span.start c.args.n) c.self.view_is (taken g c).awaits;
+  chunks = c.in_ok-span.ensures.holds;
   room = search rules;
   owner = search rules;
   space = search rules;

@@ -1,6 +1,7 @@
 use Rattle.std.proofs.Common.{◌≡◌, ◌<◌, length, sym, subst, arith}
 use Rattle.ms_arena.specs.Pages.{PagesView, page_at}
-use Rattle.ms_arena.proofs.PagesLemmas.{appended, has_room}
+use Rattle.ms_arena.proofs.PagesLemmas.{has_room}
+use Rattle.ms_arena.proofs.PageMakeLemmas.{appended}
 use Rattle.ms_arena.proofs.pages.Pages.append.Goals as goal
 
 pub unreachable-requires : goal.unreachable-requires

@@ -2,7 +2,8 @@ use Rattle.std.proofs.Common.{◌≡◌, ◌/◌, ◌%◌, ◌≤◌, ◌<◌, �
 use Rattle.ms_arena.specs.Pages.{word_at}
 use Rattle.std.proofs.lemmas.Grind.{common_steps}
 use Rattle.ms_arena.specs.declared.pages.Page.{Page}
-use Rattle.ms_arena.proofs.PagesLemmas.{Lies, lies, marked, part_leaves, was_written}
+use Rattle.ms_arena.proofs.PagesLemmas.{part_leaves, was_written}
+use Rattle.ms_arena.proofs.PageMakeLemmas.{Lies, lies, marked}
 use Rattle.ms_arena.proofs.pages.Pages.clear_in.Goals as goal
 use Rattle.ms_arena.proofs.pages.Pages.clear_in.Goals.{Else-not-page, After-wipe}
 

@@ -1,7 +1,7 @@
 use Rattle.std.proofs.Common.{◌∙◌, sym}
 use Rattle.std.specs.Prelude.{vec_len}
 use Rattle.std.proofs.lemmas.Bool.{eqb-true}
-use Rattle.ms_arena.proofs.PagesLemmas.{blank}
+use Rattle.ms_arena.proofs.PageMakeLemmas.{blank}
 use Rattle.ms_arena.proofs.pages.Pages.is_blank.Goals as goal
 
 pub returns : goal.returns

@@ -1,4 +1,4 @@
-use Rattle.ms_arena.proofs.PagesLemmas.{renewed}
+use Rattle.ms_arena.proofs.PageMakeLemmas.{renewed}
 use Rattle.ms_arena.proofs.pages.Pages.renew.Goals as goal
 
 pub returns-clause-words : goal.returns-clause-words

@@ -8,9 +8,12 @@ use Rattle.ms_base.specs.declared.refusal.Refusal.TheVariants.{NoRoom, OutOfMemo
 use Rattle.ms_buddy.specs.Counts.{holder_of}
 use Rattle.ms_buddy.specs.Places.{lent_from}
 use Rattle.ms_buddy.specs.Leaves.{fits_in, free_of, is_same, leaf_of, span_at, with_leaf}
-use Rattle.ms_buddy.proofs.CallLemmas.{IsAsked, Lends, asked, err_holds, fits_there, front_fits, holder_listed}
-use Rattle.ms_buddy.proofs.CallLemmas.{kept_then, lent_then, node_then, none_fits, not_whole, ok_holds, parts_then}
-use Rattle.ms_buddy.proofs.CallLemmas.{place_then}
+use Rattle.ms_buddy.proofs.CallLemmas.{IsAsked, fits_there, holder_listed}
+use Rattle.ms_buddy.proofs.LentPartLemmas.{front_fits}
+use Rattle.ms_buddy.proofs.LendLemmas.{Lends, asked, err_holds}
+use Rattle.ms_buddy.proofs.CallLemmas.{none_fits, not_whole}
+use Rattle.ms_buddy.proofs.LendLemmas.{kept_then, lent_then, node_then, ok_holds, parts_then}
+use Rattle.ms_buddy.proofs.LendLemmas.{place_then}
 use Rattle.ms_buddy.proofs.changes.CarvedLemmas.{clash}
 use Rattle.ms_buddy.proofs.FreeLeafLemmas.{free_of-kept}
 use Rattle.ms_buddy.proofs.bits.FreeNumberLemmas.{tree_may_part}
@@ -105,9 +108,7 @@ returns-then-is_err-clause-refusal g c =
     )
 
 pub of-requires : goal.of-requires
-of-requires g c =
-    front_fits c.args.level _ c.requires.some (omega (arith, c.requires.within))
-    (part_asked g (goal.at.of-requires g c).After-holder).low
+of-requires g c = front_fits c.args.level _ c.requires.some (omega (arith, c.requires.within))
 
 pub put-requires-clause-within : goal.put-requires-clause-within
 put-requires-clause-within g c =

@@ -3,8 +3,9 @@ use Rattle.std.proofs.Common.{◌-◌, ◌/◌, ℕ, sym, ap, ◌∙◌, arith}
 use Rattle.ms_base.specs.Level.{size_of}
 use Rattle.ms_buddy.specs.Counts.{follower_of}
 use Rattle.ms_buddy.specs.Leaves.{can_enlarge, free_of, with_parent}
-use Rattle.ms_buddy.proofs.CallLemmas.{IsLentHere, follower_in_root, front_fits, lent_here, may_become, parent_put}
-use Rattle.ms_buddy.proofs.CallLemmas.{same_length}
+use Rattle.ms_buddy.proofs.LentPartLemmas.{IsLentHere, follower_in_root, front_fits, lent_here, may_become}
+use Rattle.ms_buddy.proofs.PlaceChangeLemmas.{parent_put}
+use Rattle.ms_buddy.proofs.PlaceChangeLemmas.{same_length}
 use Rattle.ms_buddy.proofs.changes.EnlargedLemmas.{MayBecome, enlarged}
 use Rattle.ms_buddy.proofs.FreeLeafLemmas.{free_of-kept}
 use Rattle.ms_buddy.proofs.bits.FreeNumberLemmas.{enlarged_bits}
@@ -50,8 +51,7 @@ change-requires-clause-few g c =
 
 pub change-requires-clause-front : goal.change-requires-clause-front
 change-requires-clause-front g c =
-    let is = there g (goal.at.change-requires-clause-front g c).After-self in
-    front_fits c.args.span.level _ c.requires.some c.requires.within is.low
+    front_fits c.args.span.level _ c.requires.some c.requires.within
 
 pub part_counts-requires-clause-some : goal.part_counts-requires-clause-some
 part_counts-requires-clause-some g c =

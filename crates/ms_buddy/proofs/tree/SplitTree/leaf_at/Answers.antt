@@ -10,7 +10,8 @@ use Rattle.ms_base.specs.Level.{highest_level}
 use Rattle.ms_buddy.specs.Counts.{holder_of, number_of}
 use Rattle.ms_buddy.specs.FreeBits.{bit_of}
 use Rattle.ms_buddy.specs.Leaves.{covers, free_of, is_lent, span_at}
-use Rattle.ms_buddy.proofs.CallLemmas.{InRoot, holder_at_place, holder_found, holder_listed, lends_there, some_level}
+use Rattle.ms_buddy.proofs.CallLemmas.{InRoot, holder_found, holder_listed}
+use Rattle.ms_buddy.proofs.LentPartLemmas.{holder_at_place, lends_there, some_level}
 use Rattle.ms_buddy.proofs.searches.FoundLemmas.{alike}
 use Rattle.ms_buddy.proofs.FreeLeafLemmas.{free_of-kept}
 use Rattle.ms_buddy.proofs.tree.SplitTree.leaf_at.Goals as goal

@@ -2,7 +2,7 @@
 use Rattle.std.proofs.Common.{◌≡◌, Some, sym, ap, subst, ◌∙◌}
 use Rattle.ms_buddy.specs.declared.places.Lending.{Lending}
 use Rattle.ms_buddy.specs.Leaves.{AreInOrder, is_lent, span_at}
-use Rattle.ms_buddy.proofs.CallLemmas.{lent_there, not_lent}
+use Rattle.ms_buddy.proofs.LentPartLemmas.{lent_there, not_lent}
 use Rattle.ms_buddy.proofs.KeptTreeLemmas.{are_leaves}
 use Rattle.ms_buddy.proofs.tree.SplitTree.lent_at.Goals as goal
 

@@ -3,7 +3,8 @@ use Rattle.std.proofs.Common.{◌/◌, [], ◌∷◌, Some, sym, ap, ◌∙◌, 
 use Rattle.ms_buddy.specs.Counts.{beside, holder_of}
 use Rattle.ms_buddy.specs.FreeBits.{IsMoved}
 use Rattle.ms_buddy.specs.Leaves.{without_leaf}
-use Rattle.ms_buddy.proofs.CallLemmas.{IsLentHere, Returns, lent_here, release_put, returned, same_length}
+use Rattle.ms_buddy.proofs.LentPartLemmas.{IsLentHere, Returns, lent_here, returned}
+use Rattle.ms_buddy.proofs.PlaceChangeLemmas.{release_put, same_length}
 use Rattle.ms_buddy.proofs.searches.FoundLemmas.{alike}
 use Rattle.ms_buddy.proofs.FreeLeafLemmas.{free_of-tree}
 use Rattle.ms_buddy.proofs.bits.FreeNumberLemmas.{joined_bits, tree_may_join}

@@ -4,7 +4,8 @@ use Rattle.ms_base.specs.declared.span.Span.{Span}
 use Rattle.ms_buddy.specs.Counts.{AreCounts}
 use Rattle.ms_buddy.specs.FreeBits.{AreFreeBits}
 use Rattle.ms_buddy.specs.Leaves.{with_front}
-use Rattle.ms_buddy.proofs.CallLemmas.{IsLentHere, front_fits, front_put, lent_here, same_length}
+use Rattle.ms_buddy.proofs.LentPartLemmas.{IsLentHere, front_fits, lent_here}
+use Rattle.ms_buddy.proofs.PlaceChangeLemmas.{front_put, same_length}
 use Rattle.ms_buddy.proofs.changes.FrontedLemmas.{fronted}
 use Rattle.ms_buddy.proofs.KeptTreeLemmas.{kept_leaves}
 use Rattle.ms_buddy.proofs.tree.SplitTree.set_front.Given.{Over}
@@ -24,8 +25,7 @@ change-requires-clause-few g c =
 
 pub change-requires-clause-front : goal.change-requires-clause-front
 change-requires-clause-front g c =
-    let is = there g (goal.at.change-requires-clause-front g c).After-self in
-    front_fits c.args.span.level _ c.requires.some (omega (arith, c.requires.within)) is.low
+    front_fits c.args.span.level _ c.requires.some (omega (arith, c.requires.within))
 
 pub invariant_of-self : goal.invariant_of-self
 invariant_of-self g c =

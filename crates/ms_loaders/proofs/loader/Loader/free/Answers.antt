@@ -4,7 +4,8 @@ use Rattle.ms_loaders.specs.LoaderInside.{live_at, view_of}
 use Rattle.ms_loaders.proofs.MappedLemmas.{missing-mapped}
 use Rattle.ms_loaders.proofs.calls.ViewLemmas.{view_is_sound, words_at}
 use Rattle.ms_loaders.proofs.calls.NamedRunLemmas.{not_class}
-use Rattle.ms_loaders.proofs.calls.LoaderLemmas.{IsDone, block_is_freed, block_may_go, with_arena_at}
+use Rattle.ms_loaders.proofs.calls.LoaderLemmas.{IsDone, block_is_freed, block_may_go}
+use Rattle.ms_loaders.proofs.calls.ReplacedLemmas.{with_arena_at}
 use Rattle.ms_loaders.specs.Loader.{FreesBlock}
 use Rattle.ms_loaders.proofs.loader.Loader.free.Goals as goal
 use Rattle.ms_loaders.proofs.loader.Loader.free.Goals.{After-free, After-free-else-is_class}

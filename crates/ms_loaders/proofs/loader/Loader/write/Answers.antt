@@ -4,7 +4,8 @@ use Rattle.ms_loaders.specs.LoaderInside.{live_at, view_of}
 use Rattle.ms_loaders.proofs.MappedLemmas.{missing-mapped}
 use Rattle.ms_loaders.proofs.calls.ViewLemmas.{view_is_sound, words_at}
 use Rattle.ms_loaders.proofs.calls.NamedRunLemmas.{not_class}
-use Rattle.ms_loaders.proofs.calls.LoaderLemmas.{IsDone, ends_somewhere, its_run, past_somewhere, with_arena_at}
+use Rattle.ms_loaders.proofs.calls.LoaderLemmas.{IsDone, ends_somewhere, its_run, past_somewhere}
+use Rattle.ms_loaders.proofs.calls.ReplacedLemmas.{with_arena_at}
 use Rattle.ms_loaders.proofs.calls.LoaderLemmas.{word_is_written}
 use Rattle.ms_loaders.specs.Loader.{WritesWord}
 use Rattle.ms_loaders.proofs.loader.Loader.write.Goals as goal

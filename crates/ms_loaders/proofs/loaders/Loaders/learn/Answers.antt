@@ -6,7 +6,7 @@ use Rattle.ms_loaders.proofs.loaders.Loaders.learn.Goals as goal
 
 pub loop-loader-init : goal.loop-loader-init
 loop-loader-init c = λ all.
-    subst (All IsSoundView) (c.into_iter-loader-iterator.ensures.into_iter_gives ∙ c.values-loader-items.ensures) all
+    subst (All IsSoundView) (c.into_iter-loader-iterator.ensures.into_iter_gives ∙ c.values-loader-items.ensures.all) all
 
 pub loop-loader-preserved : goal.loop-loader-preserved
 loop-loader-preserved c = λ all. c.loop-loader.invariant (rw c.in-Some.ensures.steps

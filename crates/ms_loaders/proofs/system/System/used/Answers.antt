@@ -14,7 +14,7 @@ loop-loader-init c =
     subst (λ (m : Machine). 0 + sum_by used_in_both c.into_iter-loader-iterator.result
     ≡ used_words NonClass m + used_words Class m) c.self.view_is
     (none c.into_iter-loader-iterator.result
-    ∙ ap (sum_by used_in_both) (c.into_iter-loader-iterator.ensures.into_iter_gives ∙ c.values-loader-items.ensures)
+    ∙ ap (sum_by used_in_both) (c.into_iter-loader-iterator.ensures.into_iter_gives ∙ c.values-loader-items.ensures.all)
     ∙ used_is c.self.inside.loaders)
   where
     none : (l : List LoaderView) → 0 + sum_by used_in_both l ≡ sum_by used_in_both l

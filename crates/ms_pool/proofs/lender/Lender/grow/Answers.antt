@@ -4,7 +4,7 @@ use Rattle.ms_pool.specs.Counting.{HasLeast, HasRoomFor, MovesIn, counted_in}
 use Rattle.ms_pool.specs.Ledger.{state_in}
 use Rattle.ms_pool.specs.Keeping.{ledger_of}
 use Rattle.ms_pool.proofs.counts.CountedLemmas.{grown_is_counted, least_there, room_there}
-use Rattle.ms_pool.proofs.loans.LentPartLemmas.{kept_however_counted}
+use Rattle.ms_pool.proofs.loans.ShownLemmas.{kept_however_counted}
 use Rattle.ms_pool.proofs.growths.GrowingLemmas.{past_space, stays_as_it_was}
 use Rattle.ms_pool.proofs.growths.ReachLemmas.{grown_no_room, grown_stays}
 use Rattle.ms_pool.proofs.growths.ReplacingLemmas.{GrowsThere, IsFoundAt, found_there, grew_there, grows_there}

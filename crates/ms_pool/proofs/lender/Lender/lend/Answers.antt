@@ -5,7 +5,7 @@ use Rattle.ms_pool.specs.Keeping.{IsKept, ledger_of}
 use Rattle.ms_pool.proofs.counts.CountedLemmas.{counted_on, lent_is_counted, room_there, run_starts_in}
 use Rattle.ms_pool.proofs.loans.OpenLemmas.{open_is_low, open_where_fresh}
 use Rattle.ms_pool.proofs.loans.LentPartLemmas.{front_is_low, front_is_reserved, front_lacks, front_within}
-use Rattle.ms_pool.proofs.loans.LentPartLemmas.{kept_however_counted, kept_where_shown, lent_shows}
+use Rattle.ms_pool.proofs.loans.ShownLemmas.{kept_however_counted, kept_where_shown, lent_shows}
 use Rattle.ms_pool.proofs.lender.Lender.lend.Goals as goal
 
 pub carve-requires-clause-may : goal.carve-requires-clause-may

@@ -1,19 +1,13 @@
-use Rattle.std.proofs.Common.{◌≤◌, ◌-◌, ℕ, cond, [], sym, ap, ◌∙◌, arith}
+use Rattle.std.proofs.Common.{cond, [], sym, ap, ◌∙◌, arith}
 use Rattle.std.specs.List.{find}
-use Rattle.std.proofs.Math.Nat.{pow-le-pow_right}
 use Rattle.ms_base.specs.FreeParts.{free_in_slot}
-use Rattle.ms_base.specs.Level.{root_words, size_of}
+use Rattle.ms_base.proofs.free.HalvesLemmas.{size_falls}
 use Rattle.ms_pool.specs.Ledger.{held_in, state_in}
 use Rattle.ms_pool.specs.Keeping.{ledger_of}
 use Rattle.ms_pool.specs.Searching.{first_in_slot, grants, part_at}
 use Rattle.ms_pool.proofs.searches.SearchLemmas.{found_here, found_later}
 use Rattle.ms_pool.proofs.searches.SlotLoopLemmas.{slot_found}
 use Rattle.ms_pool.proofs.lender.Lender.lowest_in_slot.Goals as goal
-
--- What a chunk of some level holds a root holds.
-whole : (level words : ℕ) → words ≤ size_of level → words ≤ root_words
-whole level words fits =
-    omega (arith, fits, pow-le-pow_right {n = 2} (omega arith) {i = 19 - level} {j = 19} (omega arith))
 
 pub returns-in-Some : goal.returns-in-Some
 unfolding first_in_slot
@@ -53,7 +47,9 @@ returns c =
     (sym c.is_reserved.ensures ∙ c.if-is_reserved.false))
 
 pub lowest_in_root-requires-clause-fits : goal.lowest_in_root-requires-clause-fits
-lowest_in_root-requires-clause-fits c = whole c.args.level c.args.wish.now.words c.requires.fits
+lowest_in_root-requires-clause-fits c =
+    omega (arith, c.requires.fits, size_falls 0 c.args.level (omega arith))
 
 pub lowest_in_root-requires-then-is_reserved-clause-fits : goal.lowest_in_root-requires-then-is_reserved-clause-fits
-lowest_in_root-requires-then-is_reserved-clause-fits c = whole c.args.level c.args.wish.now.words c.requires.fits
+lowest_in_root-requires-then-is_reserved-clause-fits c =
+    omega (arith, c.requires.fits, size_falls 0 c.args.level (omega arith))

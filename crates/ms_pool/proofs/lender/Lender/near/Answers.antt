@@ -8,6 +8,5 @@ smaller-requires-clause-fits c =
       arith,
       c.requires.fits,
       size_falls c.new.result c.args.most
-          (omega (arith, c.new.ensures, c.number.ensures.same, c.if-two_more-number.true))
-          (omega (arith, c.number.ensures.same, c.number.ensures.below)),
+          (omega (arith, c.new.ensures, c.number.ensures.same, c.if-two_more-number.true)),
     )

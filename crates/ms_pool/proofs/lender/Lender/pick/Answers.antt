@@ -16,12 +16,12 @@ pub returns-in-Some-clause-picked : goal.returns-in-Some-clause-picked
 returns-in-Some-clause-picked c =
     rw (c.new.ensures, c.max.ensures, c.number.ensures.same, c.number-in-Some.ensures.same)
     (picked_found (state_in c.args.space (ledger_of c.args.self.now)) c.args.wanted c.args.most c.args.words
-    c.in-Some.part c.requires.asks.levels (sym c.found.ensures ∙ c.in-Some.is)).0
+    c.in-Some.part c.requires.asks.levels (sym c.found.ensures.first ∙ c.in-Some.is)).0
 
 pub returns-in-Some-clause-room : goal.returns-in-Some-clause-room
 returns-in-Some-clause-room c =
     (picked_found (state_in c.args.space (ledger_of c.args.self.now)) c.args.wanted c.args.most c.args.words
-    c.in-Some.part c.requires.asks.levels (sym c.found.ensures ∙ c.in-Some.is)).1
+    c.in-Some.part c.requires.asks.levels (sym c.found.ensures.first ∙ c.in-Some.is)).1
 
 pub returns-in-Some-new_slot-clause-picked : goal.returns-in-Some-new_slot-clause-picked
 returns-in-Some-new_slot-clause-picked c =
@@ -36,14 +36,14 @@ returns-in-Some-new_slot-clause-picked c =
     rw (c.from.ensures, h.lowest)
     (ap root (sym h.space)
     ∙ (picked_new (state_in c.args.space (ledger_of c.args.self.now)) c.args.wanted c.args.most c.args.words
-    (sym c.found.ensures ∙ c.in-None.is)).0)
+    (sym c.found.ensures.first ∙ c.in-None.is)).0)
 
 pub returns-in-Some-new_slot-clause-room : goal.returns-in-Some-new_slot-clause-room
 returns-in-Some-new_slot-clause-room c =
     let nodes = c.args.self.now.nodes in
     let h = c.in-Some-new_slot.ensures in
     (picked_new (state_in c.args.space (ledger_of c.args.self.now)) c.args.wanted c.args.most c.args.words
-    (sym c.found.ensures ∙ c.in-None.is)).1
+    (sym c.found.ensures.first ∙ c.in-None.is)).1
     ∙ ap (λ space. length (by_space space nodes.slots (class_slots nodes.class_slots))
     == by_space space nodes.limits.nodes nodes.class_slots) h.space
     ∙ ne_eqb (length nodes.slots) nodes.limits.nodes (omega (arith, h.granted))
@@ -53,7 +53,7 @@ returns-in-None-new_slot-clause-full c =
     let nodes = c.args.self.now.nodes in
     let h = c.in-None-new_slot.ensures in
     (picked_new (state_in c.args.space (ledger_of c.args.self.now)) c.args.wanted c.args.most c.args.words
-    (sym c.found.ensures ∙ c.in-None.is)).1
+    (sym c.found.ensures.first ∙ c.in-None.is)).1
     ∙ eq-eqb (length (by_space c.args.space nodes.slots (class_slots nodes.class_slots)))
     (by_space c.args.space nodes.limits.nodes nodes.class_slots) h.full
 
@@ -61,7 +61,7 @@ pub returns-in-Some-clause-slot : goal.returns-in-Some-clause-slot
 returns-in-Some-clause-slot c =
     inl (in_space c.args.space
     (found_is_reserved (state_in c.args.space (ledger_of c.args.self.now)) c.args.wanted c.args.most c.args.words
-    c.in-Some.part c.requires.asks.levels (sym c.found.ensures ∙ c.in-Some.is)))
+    c.in-Some.part c.requires.asks.levels (sym c.found.ensures.first ∙ c.in-Some.is)))
   where
     in_space : (space : Space)
         → is_reserved (state_in space (ledger_of c.args.self.now)).slots (slot_of c.in-Some.part.start) ≡ true

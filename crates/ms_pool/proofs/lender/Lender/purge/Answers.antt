@@ -8,8 +8,10 @@ use Rattle.ms_pool.specs.Ledger.{held_in}
 use Rattle.ms_pool.specs.Keeping.{ledger_of}
 use Rattle.ms_pool.proofs.counts.CountedLemmas.{counted_on}
 use Rattle.ms_pool.proofs.returns.ReleasedChunkLemmas.{not_true}
-use Rattle.ms_pool.proofs.PurgingLemmas.{IsPurgedTo, drops_next, kept_once_purged, no_more_slots, passes}
-use Rattle.ms_pool.proofs.PurgingLemmas.{purged_at_first, purged_at_last, skipped_to, skips_held}
+use Rattle.ms_pool.proofs.PurgingLemmas.{no_more_slots}
+use Rattle.ms_pool.proofs.PurgedToLemmas.{IsPurgedTo, drops_next, kept_once_purged, passes}
+use Rattle.ms_pool.proofs.PurgingLemmas.{purged_at_first, purged_at_last, skips_held}
+use Rattle.ms_pool.proofs.PurgedToLemmas.{skipped_to}
 use Rattle.ms_pool.proofs.lender.Lender.purge.Goals.{then-is_whole, else-is_whole}
 use Rattle.ms_pool.proofs.lender.Lender.purge.Goals as goal
 

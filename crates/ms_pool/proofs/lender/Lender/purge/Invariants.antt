@@ -1,5 +1,5 @@
 use Rattle.std.proofs.Common.{◌≤◌, ◌-◌}
-use Rattle.ms_pool.proofs.PurgingLemmas.{IsPurgedTo}
+use Rattle.ms_pool.proofs.PurgedToLemmas.{IsPurgedTo}
 use Rattle.ms_pool.proofs.lender.Lender.purge.Given as goal
 
 -- The first slots were looked at, and nothing but the nodes changed.

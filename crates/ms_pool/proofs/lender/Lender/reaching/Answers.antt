@@ -29,7 +29,7 @@ chunk_at-requires-then-may_become_parent c =
       c.if-total-size-2.true,
       c.words-size.ensures.size,
       parent_size c.args.chunk.now.level some low,
-      size_falls 0 (c.args.chunk.now.level - 1) (omega arith) (omega (arith, low)),
+      size_falls 0 (c.args.chunk.now.level - 1) (omega arith),
     )
 
 pub returns-then-may_become_parent : goal.returns-then-may_become_parent

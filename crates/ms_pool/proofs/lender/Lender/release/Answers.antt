@@ -8,7 +8,7 @@ use Rattle.ms_pool.proofs.returns.PutBackLemmas.{keeps_where, leaves_where, rele
 use Rattle.ms_pool.proofs.returns.PutBackLemmas.{seen}
 use Rattle.ms_pool.proofs.lender.Lender.release.Goals.{else-ne-via-then-ne+else-granule-size, else-ne-via-else-ne}
 use Rattle.ms_pool.proofs.lender.Lender.release.Goals as goal
-use Rattle.ms_pool.proofs.loans.LentPartLemmas.{kept_where_shown}
+use Rattle.ms_pool.proofs.loans.ShownLemmas.{kept_where_shown}
 
 pub overflow_add-part : goal.overflow_add-part
 overflow_add-part c = omega (

@@ -4,7 +4,7 @@ use Rattle.ms_base.specs.Part.{slot_of}
 use Rattle.ms_buddy.specs.Leaves.{AreLeaves}
 use Rattle.ms_pool.specs.Growing.{has_room}
 use Rattle.ms_pool.proofs.loans.LentPartLemmas.{front_is_low, front_is_reserved, front_lacks, front_within}
-use Rattle.ms_pool.proofs.loans.LentPartLemmas.{kept_where_shown}
+use Rattle.ms_pool.proofs.loans.ShownLemmas.{kept_where_shown}
 use Rattle.ms_pool.proofs.growths.ParentLemmas.{parents_alike}
 use Rattle.ms_pool.proofs.growths.RaisedPartLemmas.{grown_shows, reserved_too, stays_reserved}
 use Rattle.ms_pool.proofs.returns.ReleasedTreeLemmas.{leaf_there}

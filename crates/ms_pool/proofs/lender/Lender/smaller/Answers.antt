@@ -14,8 +14,7 @@ lowest_free-requires-clause-fits c =
     omega (
       arith,
       c.requires.fits,
-      size_falls c.in-Some.level c.args.most (omega (arith, c.in-Some.ensures.below, c.number-end.ensures.same))
-          (omega (arith, c.number-end.ensures.same, c.number-end.ensures.below)),
+      size_falls c.in-Some.level c.args.most (omega (arith, c.in-Some.ensures.below, c.number-end.ensures.same)),
     )
 
 pub loop-level-preserved : goal.loop-level-preserved
@@ -23,7 +22,7 @@ loop-level-preserved c =
     rw c.number-from-in-Some.ensures.same (
       omega (arith, c.in-Some.ensures.below, c.number-end.ensures.below),
       decided_up _ _ _ c.args.levels _ c.number-end.result c.loop-level.from c.in-Some.level _ _ c.requires.told
-          c.requires.fits c.number-end.ensures.same c.number-end.ensures.below c.in-Some.ensures.from
+          c.requires.fits c.number-end.ensures.same c.in-Some.ensures.from
           c.in-Some.ensures.below c.in-Some.ensures.lowest c.loop-level.invariant.1 c.lowest_free.ensures
           ∙ found_later _ _ (ap (part_at c.in-Some.level) c.in_default-lowest_free.is),
     )
@@ -31,11 +30,11 @@ loop-level-preserved c =
 pub returns-in-Some-lowest_free : goal.returns-in-Some-lowest_free
 returns-in-Some-lowest_free c =
     sym (decided_up _ _ _ c.args.levels _ c.number-end.result c.loop-level.from c.in-Some.level _ _ c.requires.told
-    c.requires.fits c.number-end.ensures.same c.number-end.ensures.below c.in-Some.ensures.from
+    c.requires.fits c.number-end.ensures.same c.in-Some.ensures.from
     c.in-Some.ensures.below c.in-Some.ensures.lowest c.loop-level.invariant.1 c.lowest_free.ensures
     ∙ found_here _ _ _ (ap (part_at c.in-Some.level) c.in-Some-lowest_free.is))
 
 pub returns : goal.returns
 returns c =
     sym (none_up _ _ _ c.args.levels _ c.number-end.result c.loop-level.from _ c.requires.told c.requires.fits
-    c.number-end.ensures.same c.number-end.ensures.below c.in_default.ensures.none c.loop-level.invariant.1)
+    c.number-end.ensures.same c.in_default.ensures.none c.loop-level.invariant.1)

@@ -16,7 +16,7 @@ picked : (c : After-chunk_at-chunk)
 picked c =
     picked_there c.args.self.now c.account.inside.space c.args.wanted c.args.most c.args.words c.in-Some.span
     c.chunk_at-chunk.result c.requires.kept
-    (record { may = c.requires.asks; real = omega (arith, c.number.ensures.same, c.number.ensures.below) })
+    (record { may = c.requires.asks; real = c.pick.ensures.level })
     c.in-Some.ensures.picked c.in-Some.ensures.slot c.chunk_at-chunk.ensures
 
 -- Within the limit, all is well with it once it is lent.
@@ -57,11 +57,7 @@ returns-in_default-clause-took c =
 
 pub chunk_at-chunk-requires : goal.chunk_at-chunk-requires
 chunk_at-chunk-requires c =
-    omega (
-      arith,
-      c.requires.asks.fits,
-      size_falls 0 c.args.most (omega arith) (omega (arith, c.number.ensures.same, c.number.ensures.below)),
-    )
+    omega (arith, c.requires.asks.fits, size_falls 0 c.args.most (omega arith))
 
 pub missing-need-requires : goal.missing-need-requires
 missing-need-requires c =

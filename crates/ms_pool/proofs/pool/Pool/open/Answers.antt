@@ -7,3 +7,6 @@ returns-clause-served c =
     opened_is_served (ledger_of c.self.inside.lender.value) c.args.space c.open.result (ledger_of c.open.new.self)
     c.self.invariant.kept.sound
     (rw c.deref_mut.ensures.value at c.open.ensures.opened)
+
+pub returns-clause-before : goal.returns-clause-before
+returns-clause-before c = rw (← c.self.view_is) c.self.invariant.kept.sound

@@ -11,3 +11,6 @@ returns-clause-sums c =
     c.self.view_is
     ∙ ap (λ (account : AccountState). pool_sums (state_in account.space c.args.self.now) (opened_in c.args.self.now account.space))
     c.account.view_is
+
+pub returns-clause-sound : goal.returns-clause-sound
+returns-clause-sound c = rw (← c.self.view_is) c.self.invariant.kept.sound

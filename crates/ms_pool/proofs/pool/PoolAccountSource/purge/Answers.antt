@@ -5,9 +5,9 @@ use Rattle.ms_pool.proofs.pool.PoolAccountSource.purge.Goals as goal
 
 pub returns : goal.returns
 returns c = record {
-  served = λ account its. purged_leaves_served c.args.self.now c.purge.result c.purge.new.self account c.purge.ensures
+  served = λ account its. purged_leaves_served c.args.self.now c.purge.result c.purge.new.self account c.purge.ensures.purged
       its;
-  counted = ap (λ (l : Ledger). opened_in l) c.purge.ensures.1;
-  limits = ap (λ (l : Ledger). l.limits) c.purge.ensures.1;
-  purged = c.purge.ensures;
+  counted = ap (λ (l : Ledger). opened_in l) c.purge.ensures.purged.1;
+  limits = ap (λ (l : Ledger). l.limits) c.purge.ensures.purged.1;
+  purged = c.purge.ensures.purged;
 }

@@ -14,7 +14,7 @@ returns g c =
     let pool = c.seize-pool.ensures in let opened = c.open-answer.ensures.opened in let result = c.open-answer.result in
     let call =
     is_call _ _ c.self.inside.seat.me.0 _ c.seize-pool.result c.open-answer.new.self _ _ c.self.invariant.4 c.self.view_is pool.known
-    pool.sound c.let_go.ensures.sound pool.seat c.let_go.ensures.seat (c.let_go.ensures.own ∙ pool.own) in
+    c.open-answer.ensures.before c.open-answer.ensures.after pool.seat c.let_go.ensures.seat (c.let_go.ensures.own ∙ pool.own) in
     record {
       event = over_lock _ _ _ _ _ call opened;
       served = open_serves _ _ _ _ call _ result opened;

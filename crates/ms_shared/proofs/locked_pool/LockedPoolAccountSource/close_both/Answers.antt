@@ -33,7 +33,7 @@ let_go-requires-clause-moves g c =
     moves_at v c.seize-pool.result c.close_both.new.self _ pool.seat
     (close_both_moves v.knows _ c.args.account c.args.class_account c.close_both.new.self
     (own_times v.knows _ both.served) (own_times v.knows _ both.class_served)
-    some (closes_both _ v.knows _ _ c.close_both.new.self pool.sound pool.known some c.close_both.ensures.closed)
+    some (closes_both _ v.knows _ _ c.close_both.new.self c.close_both.ensures.before pool.known some c.close_both.ensures.closed)
     c.close_both.ensures.closed)
 
 pub returns : goal.returns
@@ -41,7 +41,7 @@ returns g c =
     let pool = c.seize-pool.ensures in let closed = c.close_both.ensures.closed in
     let call =
     is_call _ _ c.self.inside.seat.me.0 _ c.seize-pool.result c.close_both.new.self _ _ c.self.invariant.4 c.self.view_is pool.known
-    pool.sound c.let_go.ensures.sound pool.seat c.let_go.ensures.seat (c.let_go.ensures.own ∙ pool.own) in
+    c.close_both.ensures.before c.close_both.ensures.after pool.seat c.let_go.ensures.seat (c.let_go.ensures.own ∙ pool.own) in
     let well =
     closes_both _ _ c.args.account c.args.class_account c.close_both.new.self call.sound call.known
     c.requires.counted closed in

@@ -16,7 +16,7 @@ returns g c =
     c.open_both-answer.result in
     let call =
     is_call _ _ c.self.inside.seat.me.0 _ c.seize-pool.result c.open_both-answer.new.self _ _ c.self.invariant.4 c.self.view_is
-    pool.known pool.sound c.let_go.ensures.sound pool.seat c.let_go.ensures.seat (c.let_go.ensures.own ∙ pool.own) in
+    pool.known c.open_both-answer.ensures.before c.open_both-answer.ensures.after pool.seat c.let_go.ensures.seat (c.let_go.ensures.own ∙ pool.own) in
     record {
       served = both_serve _ _ _ _ call result opened;
       empty = (both_opened_are_empty _ result _ opened).0;

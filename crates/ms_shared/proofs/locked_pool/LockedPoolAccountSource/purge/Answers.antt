@@ -10,14 +10,14 @@ pub let_go-requires-clause-moves : goal.let_go-requires-clause-moves
 let_go-requires-clause-moves g c =
     moves_at c.self.inside.seat.me.0 c.seize-pool.result c.purge-gone.new.self _ c.seize-pool.ensures.seat
     (purge_moves c.self.inside.seat.me.0.knows c.seize-pool.result c.purge-gone.result c.purge-gone.new.self
-    c.purge-gone.ensures)
+    c.purge-gone.ensures.purged)
 
 pub returns : goal.returns
 returns g c =
-    let pool = c.seize-pool.ensures in let purged = c.purge-gone.ensures in
+    let pool = c.seize-pool.ensures in let purged = c.purge-gone.ensures.purged in
     let call =
     is_call _ _ c.self.inside.seat.me.0 _ c.seize-pool.result c.purge-gone.new.self _ _ c.self.invariant.4 c.self.view_is pool.known
-    pool.sound c.let_go.ensures.sound pool.seat c.let_go.ensures.seat (c.let_go.ensures.own ∙ pool.own) in
+    c.purge-gone.ensures.before c.purge-gone.ensures.after pool.seat c.let_go.ensures.seat (c.let_go.ensures.own ∙ pool.own) in
     record {
       served = λ account its. serves_then _ _ _ _ call account account its refl
           (purged_leaves_served _ _ c.purge-gone.new.self account purged (served_by_pool _ _ account call.known its));

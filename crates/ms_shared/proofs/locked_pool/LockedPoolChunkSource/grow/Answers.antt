@@ -23,7 +23,7 @@ let_go-requires-clause-moves g c =
     moves_at v c.seize-pool.result c.grow-answer.new.self _ pool.seat
     (kept_moves v.knows c.args.account.now.owner c.seize-pool.result c.grow-answer.new.self
     (own_times v.knows c.args.account.now serves)
-    (grew_keeps _ _ _ _ _ c.grow-answer.result _ pool.sound (served_by_pool _ v.knows _ pool.known serves)
+    (grew_keeps _ _ _ _ _ c.grow-answer.result _ c.grow-answer.ensures.before (served_by_pool _ v.knows _ pool.known serves)
     c.grow-answer.ensures.held grew)
     (grew_tallies _ _ _ _ _ c.grow-answer.result _ grew))
 
@@ -32,7 +32,7 @@ returns g c =
     let v = c.self.inside.seat.me.0 in let pool = c.seize-pool.ensures in let e = c.grow-answer.ensures in let result =
     c.grow-answer.result in
     let call =
-    is_call _ _ v _ c.seize-pool.result c.grow-answer.new.self _ _ c.self.invariant.4 c.self.view_is pool.known pool.sound c.let_go.ensures.sound pool.seat
+    is_call _ _ v _ c.seize-pool.result c.grow-answer.new.self _ _ c.self.invariant.4 c.self.view_is pool.known c.grow-answer.ensures.before c.grow-answer.ensures.after pool.seat
     c.let_go.ensures.seat (c.let_go.ensures.own ∙ pool.own) in
     let its = served_by_pool _ _ _ call.known c.requires.served in record {
       served = serves_then _ _ _ _ call c.args.account.now c.grow-answer.new.account c.requires.served

@@ -29,7 +29,7 @@ pub returns : goal.returns
 returns g c =
     let v = c.self.inside.seat.me.0 in let pool = c.seize-pool.ensures in let e = c.take-answer.ensures in let result =
     c.take-answer.result in let call =
-    is_call _ _ v _ c.seize-pool.result c.take-answer.new.self _ _ c.self.invariant.4 c.self.view_is pool.known pool.sound c.let_go.ensures.sound pool.seat
+    is_call _ _ v _ c.seize-pool.result c.take-answer.new.self _ _ c.self.invariant.4 c.self.view_is pool.known c.take-answer.ensures.before c.take-answer.ensures.after pool.seat
     c.let_go.ensures.seat (c.let_go.ensures.own ∙ pool.own) in
     let asks : MayAsk c.args.wanted c.args.most c.args.words = record {
       may = c.requires.asks;

@@ -15,7 +15,7 @@ returns g c =
     let pool = c.seize-pool.ensures in
     let call =
     is_call _ _ c.self.inside.seat.me.0 _ c.seize-pool.result c.seize-pool.result _ _ c.self.invariant.4 c.self.view_is pool.known
-    pool.sound c.let_go.ensures.sound pool.seat c.let_go.ensures.seat (c.let_go.ensures.own ∙ pool.own) in
+    c.totals-totals.ensures.sound c.totals-totals.ensures.sound pool.seat c.let_go.ensures.seat (c.let_go.ensures.own ∙ pool.own) in
     record {
       others = λ other its. serves_then _ _ _ _ call other other its refl (served_by_pool _ _ other call.known its);
       counted = counts_stay _ _ _ _ call refl;

@@ -3,7 +3,7 @@ use Rattle.atomic_table.specs.Table.{rest}
 use Rattle.ms_pool.specs.Ledger.{Ledger}
 use Rattle.ms_shared.specs.SeatView.{LockState}
 use Rattle.ms_shared.specs.LockRule.{Sat, Moves, taken_of, after}
-use Rattle.ms_shared.proofs.LockLemmas.{lets_go_at}
+use Rattle.ms_shared.proofs.LetGoLemmas.{lets_go_at}
 use Rattle.ms_shared.proofs.shared_pool.SharedPool.let_go.Goals as goal
 
 put : (old new : Sat) (pool : Ledger) → old.1 ≡ (0, None) ∷ [] → new ≡ (old.0, (0, Some pool) ∷ rest old.1)
