@@ -66,6 +66,7 @@ there_still old new runs stay all =
 pub holds_more : (old new : RawView) (block : Block) (runs more b a : List (ℕ × ℕ)) → Holds old runs
     → Gains old block new → runs ≡ b ++ a → more ≡ b ++ (block.start, block.words) ∷ a → Holds new more
 holds_more old new block runs more b a holds gains runs_are more_are = subst (Holds new) (sym more_are) (record {
+  chunks = gains.chunks;
   sound = sound_with_live new.books b run a (fits_from new.books (b ++ a) run awaits) awaits.sound;
   counted = omega (
     arith,
@@ -120,6 +121,7 @@ may_free raw block runs b a holds runs_are = record {
 pub holds_fewer : (old new : RawView) (block : Block) (runs fewer b a : List (ℕ × ℕ)) → Holds old runs
     → FreesRun old block new → runs ≡ b ++ (block.start, block.words) ∷ a → fewer ≡ b ++ a → Holds new fewer
 holds_fewer old new block runs fewer b a holds frees runs_are fewer_are = subst (Holds new) (sym fewer_are) (record {
+  chunks = subst (λ (raw : RawView). AreChunks raw.space raw.books.chunks) (sym frees) holds.chunks;
   sound = subst (λ (books : ArenaState). IsSound books (b ++ a)) (sym (ap (λ (raw : RawView). raw.books) frees))
       (sound_with_kept old.books (b ++ a) run out.fits out.sound);
   counted = omega (
@@ -169,6 +171,7 @@ run_there raw run runs b a holds runs_are =
 holds_alike : (old new : RawView) (runs : List (ℕ × ℕ)) → new ≡ record old { words = new.words }
     → ((word : ℕ) → IsThere old.words word → IsThere new.words word) → Holds old runs → Holds new runs
 holds_alike old new runs same stay holds = record {
+  chunks = subst (λ (raw : RawView). AreChunks raw.space raw.books.chunks) (sym same) holds.chunks;
   sound = subst (λ (books : ArenaState). IsSound books runs) (sym (ap (λ (raw : RawView). raw.books) same)) holds.sound;
   counted = ap (λ (raw : RawView). raw.count) same ∙ holds.counted;
   summed = ap (λ (raw : RawView). raw.total) same ∙ holds.summed;
@@ -191,9 +194,8 @@ pub record IsWithin (raw : RawView) (runs : List (ℕ × ℕ)) : Type 0 where
   pub total : raw.total ≡ sum_by (λ (run : ℕ × ℕ). run.1) runs
   pub fit : raw.total + kept_of raw.books ≤ used_of raw.books
 
-pub held_within : (raw : RawView) (runs : List (ℕ × ℕ)) → AreChunks raw.space raw.books.chunks → Holds raw runs
-    → IsWithin raw runs
-held_within raw runs chunks holds = record {
+pub held_within : (raw : RawView) (runs : List (ℕ × ℕ)) → Holds raw runs → IsWithin raw runs
+held_within raw runs holds = record {
   total = exact;
   fit = omega (arith, exact, blocks_within raw.books runs holds.sound);
 }
@@ -203,7 +205,7 @@ held_within raw runs chunks holds = record {
       arith,
       holds.summed,
       blocks_within raw.books runs holds.sound,
-      used_small raw.space raw.books runs chunks holds.sound,
+      used_small raw.space raw.books runs holds.chunks holds.sound,
     )
 
 -- Another run lies clear of a run: none of its words is one of the run's.

@@ -9,7 +9,7 @@ use Rattle.ms_base.specs.declared.refusal.Refusal.{Refusal}
 use Rattle.ms_base.specs.Names.{with_new}
 use Rattle.ms_base.specs.State.{ArenaState, empty_arena}
 use Rattle.ms_base.specs.Good.{IsSound}
-use Rattle.ms_pool.specs.Account.{AccountState}
+use Rattle.ms_pool.specs.Account.{AccountState, AreChunks}
 use Rattle.ms_arena.specs.Arena.{ArenaView}
 use Rattle.ms_arena.specs.Books.{AwaitsBlock, BooksView}
 use Rattle.ms_arena.specs.Words.{WordsView, StayWords, Opens, IsThere, value_at}
@@ -77,10 +77,12 @@ pub record IsSameRaw (old new : RawView) : Type 0 where
   pub rest : new ≡ record old { words = new.words }
   pub words : StayWords old.words new.words
 
--- A block more is live: it has at least two words, which awaited it, and are there and 0.
+-- A block more is live: it has at least two words, which awaited it, and are there and 0; the chunks
+-- are an account's.
 pub record Gains (old : RawView) (block : Block) (new : RawView) : Type 0 where
   pub long : 2 ≤ block.words
   pub awaits : AwaitsBlock old.books new.books block.start block.words
+  pub chunks : AreChunks new.space new.books.chunks
   pub opens : Opens old.words block.start (block.start + block.words) new.words
   pub count : new.count ≡ old.count + 1
   pub total : new.total ≡ (old.total + block.words) % 2 ^ 64
@@ -101,9 +103,10 @@ pub record RunIsThere (words : WordsView) (run : ℕ × ℕ) : Type 0 where
   pub each : (word : ℕ) → run.0 ≤ word → word < run.0 + run.1 → IsThere words word
   pub ends : run.0 + run.1 < 2 ^ 64
 
--- These runs are its live blocks: its books are sound with them, they are counted with their words,
--- and each word of them is there.
+-- These runs are its live blocks: its chunks are an account's, its books are sound with the runs,
+-- these are counted with their words, and each word of them is there.
 pub record Holds (raw : RawView) (runs : List (ℕ × ℕ)) : Type 0 where
+  pub chunks : AreChunks raw.space raw.books.chunks
   pub sound : IsSound raw.books runs
   pub counted : raw.count ≡ length runs
   pub summed : raw.total ≡ sum_by (λ (run : ℕ × ℕ). run.1) runs % 2 ^ 64

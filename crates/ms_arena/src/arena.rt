@@ -210,8 +210,6 @@ impl Arena {
         ensures sums { AreSums result self.now }
         ensures small { result.capacity < 2 ^ 52 }
     {
-        // What is true of every arena is learnt here.
-        let _ = self.raw.account();
         self.raw.totals()
     }
 }

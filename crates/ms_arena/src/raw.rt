@@ -167,7 +167,6 @@ impl RawArena {
         ensures allocates { (live : List (ℕ × List ℕ)) → Allocates S.grew S.took (S.limits source.old).policy
             (with_live self.old live) words source.old result (with_live self.new (live_then live result)) source.new }
         ensures gains { IfOk result (λ block. Gains self.old block self.new) }
-        ensures chunks { OnOk result (AreChunks self.new.space self.new.books.chunks) }
         ensures unchanged { OnErr result (IsSameRaw self.old self.new) }
     {
         let many = self.expects_many();

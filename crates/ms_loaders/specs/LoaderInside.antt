@@ -9,7 +9,6 @@ use Rattle.ms_base.specs.declared.span.Block.{Block}
 use Rattle.ms_base.specs.declared.words.LiveBlock.{LiveBlock}
 use Rattle.ms_base.specs.Spaces.{by_space, is_in, space_at}
 use Rattle.ms_base.specs.Names.{AreNamed}
-use Rattle.ms_pool.specs.Account.{AreChunks}
 use Rattle.ms_arena.specs.Raw.{RawView, Holds, contents_at}
 use Rattle.ms_arena.specs.Words.{WordsView}
 use Rattle.ms_loaders.specs.Loader.{LoaderView}
@@ -54,7 +53,6 @@ view_of a = record {
 pub record IsArena (space : Space) (kind : Kind) (names : List (ℕ × Block)) (arena : RawView) : Type 0 where
   pub space_is : arena.space ≡ space
   pub kind_is : arena.kind ≡ kind
-  pub chunks : AreChunks arena.space arena.books.chunks
   pub holds : Holds arena (named_runs space names)
 
 -- There is an arena in each space, and names differ.

@@ -21,24 +21,25 @@ use Rattle.ms_loaders.specs.LoaderInside.{IsArena, IsLoader, blocks_of, named_ru
 use Rattle.ms_loaders.specs.Naming.{BlockNames}
 use Rattle.ms_loaders.proofs.calls.NamedRunLemmas.{runs_here, where_is}
 
+-- Nothing is lent where no chunk is.
+pub nothing_lent : (space : Space) → AreChunks space []
+nothing_lent space = search rules
+
 -- An arena with nothing is sound, and holds no block.
 pub nothing_held : (account : AccountState) (kind : Kind) (raw : RawView) → IsNewRaw account kind raw → Holds raw []
 nothing_held account kind raw new = record {
+  chunks = subst (λ (books : ArenaState). AreChunks raw.space books.chunks) (sym new.books) (nothing_lent raw.space);
   sound = subst (λ (books : ArenaState). IsSound books []) (sym new.books) empty_is_sound;
   counted = new.count;
   summed = new.total;
   there = All-from_recursion (RunIsThere raw.words) [] tt;
 }
 
-nothing_lent : (space : Space) → AreChunks space []
-nothing_lent space = search rules
-
 its_arena : (space : Space) (account : AccountState) (kind is : Kind) (raw : RawView) (names : List (ℕ × Block))
     → account.space ≡ space → kind ≡ is → names ≡ [] → IsNewRaw account kind raw → IsArena space is names raw
 its_arena space account kind is raw names space_is kind_is none new = record {
   space_is = new.space ∙ space_is;
   kind_is = new.kind_is ∙ kind_is;
-  chunks = subst (λ (books : ArenaState). AreChunks raw.space books.chunks) (sym new.books) (nothing_lent raw.space);
   holds = subst (λ (l : List (ℕ × Block)). Holds raw (named_runs space l)) (sym none) (nothing_held account kind raw new);
 }
 

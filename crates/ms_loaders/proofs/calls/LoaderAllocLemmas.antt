@@ -1,5 +1,5 @@
 -- What a loader's allocation does to it, from what the arena of the space answers.
-use Rattle.std.proofs.Common.{◌≡◌, ◌<◌, ◌+◌, ℕ, true, None, Result, Ok, Err, [], refl, sym, ap, ◌∙◌, subst, OnOk, OnErr}
+use Rattle.std.proofs.Common.{◌≡◌, ◌<◌, ◌+◌, ℕ, true, None, Result, Ok, Err, [], refl, sym, ap, ◌∙◌, subst, OnErr}
 use Rattle.std.proofs.Common.{inl, inr, arith}
 use Rattle.ms_base.specs.declared.kind.Space.{Space}
 use Rattle.ms_base.specs.declared.kind.Space.TheVariants.{NonClass, Class}
@@ -69,11 +69,11 @@ pub record IsAllocated {S : Type 0} (grew : GrowRelation S) (took : TakeRelation
   pub unchanged : OnErr answer (view_of new ≡ view_of a)
 
 module _ (space : Space) (a : Inside) (its : IsLoader a) (name : ℕ) (arena : RawView) (names : BlockNames) where
-  made : (block : Block) → named a.names.entries name ≡ None → AreChunks arena.space arena.books.chunks
+  made : (block : Block) → named a.names.entries name ≡ None
       → names.entries ≡ with_new a.names.entries name block → Gains (arena_in space a) block arena
       → IsAsked space a name arena (Ok block) (with_arena_at space a arena names)
-  made block unused chunks names_are gains = record {
-    loader = replaced space a arena names its gains.space gains.kind chunks
+  made block unused names_are gains = record {
+    loader = replaced space a arena names its gains.space gains.kind
         (rw names_are (rises_with_new a.names.entries name block its.names))
         (holds_more (arena_in space a) arena block (named_runs space a.names.entries) (named_runs space names.entries)
         (named_runs space gap.before) (named_runs space gap.after) (is_arena a its space).holds gains
@@ -93,7 +93,7 @@ module _ (space : Space) (a : Inside) (its : IsLoader a) (name : ℕ) (arena : R
       inside : is_in space block.start ≡ true
       inside = placed_in_space space (arena_in space a).books arena.books block.start block.words
           (named_runs space a.names.entries)
-          (subst (λ (s : Space). AreChunks s arena.books.chunks) (gains.space ∙ (is_arena a its space).space_is) chunks)
+          (subst (λ (s : Space). AreChunks s arena.books.chunks) (gains.space ∙ (is_arena a its space).space_is) gains.chunks)
           (is_arena a its space).holds.sound gains.awaits
 
       some : 0 < block.words
@@ -125,7 +125,6 @@ module _ (space : Space) (a : Inside) (its : IsLoader a) (name : ℕ) (arena : R
   none refusal names_are same = record {
     loader = replaced space a arena names its (ap (λ (v : RawView). v.space) same.rest)
         (ap (λ (v : RawView). v.kind) same.rest)
-        (subst (λ (v : RawView). AreChunks v.space v.books.chunks) (sym same.rest) (is_arena a its space).chunks)
         (rw names_are its.names)
         (holds_same (arena_in space a) arena (named_runs space names.entries) same
         (rw names_are (is_arena a its space).holds))
@@ -153,19 +152,17 @@ module _ (space : Space) (a : Inside) (its : IsLoader a) (name : ℕ) (arena : R
   asked : {S : Type 0} (grew : GrowRelation S) (took : TakeRelation S) (policy : Policy) (words : ℕ) (before : S)
       (answer : Result Block Refusal) (after : S)
       → AsksNamed grew took policy a.names.entries (arena_in space a) name words before answer names.entries arena after
-      → OnOk answer (AreChunks arena.space arena.books.chunks)
       → IsAsked space a name arena answer (with_arena_at space a arena names)
-  asked grew took policy words before (Ok block) after asks chunks =
-      made block asks.unused chunks asks.names_are asks.gains
-  asked grew took policy words before (Err refusal) after asks chunks = none refusal asks.names_are asks.unchanged
+  asked grew took policy words before (Ok block) after asks =
+      made block asks.unused asks.names_are asks.gains
+  asked grew took policy words before (Err refusal) after asks = none refusal asks.names_are asks.unchanged
 
   -- The whole of an allocation, from what it does to names and arena.
   pub allocated : {S : Type 0} {grew : GrowRelation S} {took : TakeRelation S} {policy : Policy} {words : ℕ}
       {before : S} {answer : Result Block Refusal} {after : S}
       → AllocatesNamed grew took policy a.names.entries (arena_in space a) name words before answer names.entries arena
-      after → OnOk answer (AreChunks arena.space arena.books.chunks)
-      → IsAllocated grew took policy space a name words before answer (with_arena_at space a arena names) after
-  allocated {words} (inl not) chunks = record {
+      after → IsAllocated grew took policy space a name words before answer (with_arena_at space a arena names) after
+  allocated {words} (inl not) = record {
     loader = done.loader;
     allocates = inl (record {
       refusal = not.refusal;
@@ -181,7 +178,7 @@ module _ (space : Space) (a : Inside) (its : IsLoader a) (name : ℕ) (arena : R
     where
       done : IsAsked space a name arena (Err not.refusal) (with_arena_at space a arena names)
       done = none not.refusal not.names_stay (same_from (arena_in space a) arena not.arena)
-  allocated {grew} {took} {policy} {words} {before} {answer} {after} (inr asks) chunks = record {
+  allocated {grew} {took} {policy} {words} {before} {answer} {after} (inr asks) = record {
     loader = done.loader;
     allocates = inr (record {
       unused = missing-mapped (live_at (words_at a)) a.names.entries name asks.unused;
@@ -195,4 +192,4 @@ module _ (space : Space) (a : Inside) (its : IsLoader a) (name : ℕ) (arena : R
   }
     where
       done : IsAsked space a name arena answer (with_arena_at space a arena names)
-      done = asked grew took policy words before answer after asks chunks
+      done = asked grew took policy words before answer after asks

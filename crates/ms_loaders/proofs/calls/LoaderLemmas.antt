@@ -13,7 +13,6 @@ use Rattle.ms_base.specs.State.{ArenaState, LoaderState, arena_of, with_arena}
 use Rattle.ms_base.specs.Transition.{with_block, with_freed}
 use Rattle.ms_base.proofs.entries.EntryLemmas.{Split, split_at, rises_without}
 use Rattle.ms_base.proofs.arena.BlockLemmas.{not_in_other}
-use Rattle.ms_pool.specs.Account.{AreChunks}
 use Rattle.ms_arena.specs.Raw.{RawView, FreesRun, Holds, RunIsThere, contents_at}
 use Rattle.ms_arena.specs.Words.{WordsView, Writes, value_at}
 use Rattle.ms_arena.proofs.HoldLemmas.{IsClear, MayFree, clear_of_each, holds_fewer, holds_written, may_free}
@@ -100,7 +99,7 @@ module _ (a : Inside) (its : IsLoader a) (space : Space) (name : ℕ) (block : B
       → IsDone a (WritesWord (view_of a).state name index value) (with_arena_at space a new a.names)
   word_is_written index value new within writes same = record {
     loader = replaced space a new a.names its (ap (λ (v : RawView). v.space) same) (ap (λ (v : RawView). v.kind) same)
-        (subst (λ (v : RawView). AreChunks v.space v.books.chunks) (sym same) (is_arena a its space).chunks) its.names
+        its.names
         (holds_written arena new (named_runs space a.names.entries) (block.start + index) value same writes holds) refl;
     done = record {
       found = its_block;
@@ -149,7 +148,6 @@ module _ (a : Inside) (its : IsLoader a) (space : Space) (name : ℕ) (block : B
       → IsDone a (FreesBlock (view_of a).state name) (with_arena_at space a new names)
   block_is_freed new names gone frees = record {
     loader = replaced space a new names its (ap (λ (v : RawView). v.space) frees) (ap (λ (v : RawView). v.kind) frees)
-        (subst (λ (v : RawView). AreChunks v.space v.books.chunks) (sym frees) (is_arena a its space).chunks)
         (rw gone (rises_without a.names.entries name its.names))
         (holds_fewer arena new block (named_runs space a.names.entries) (named_runs space names.entries)
         (named_runs space split.before) (named_runs space split.after) holds frees runs_with

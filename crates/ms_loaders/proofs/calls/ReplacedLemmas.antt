@@ -9,7 +9,6 @@ use Rattle.ms_base.specs.declared.words.LiveBlock.{LiveBlock}
 use Rattle.ms_base.specs.Spaces.{by_space, other_space}
 use Rattle.ms_base.specs.Names.{AreNamed}
 use Rattle.ms_base.specs.State.{LoaderState, arena_of, with_arena}
-use Rattle.ms_pool.specs.Account.{AreChunks}
 use Rattle.ms_arena.specs.Raw.{RawView, Holds}
 use Rattle.ms_arena.specs.Words.{WordsView, value_at}
 use Rattle.ms_loaders.specs.Loader.{LoaderView, with_state}
@@ -60,30 +59,27 @@ blocks_same space a arena names entries e =
 
 pub replaced : (space : Space) (a : Inside) (arena : RawView) (names : BlockNames) → IsLoader a
     → arena.space ≡ (arena_in space a).space → arena.kind ≡ (arena_in space a).kind
-    → AreChunks arena.space arena.books.chunks → AreNamed names.entries → Holds arena (named_runs space names.entries)
+    → AreNamed names.entries → Holds arena (named_runs space names.entries)
     → named_runs (other_space space) names.entries ≡ named_runs (other_space space) a.names.entries
     → IsLoader (with_arena_at space a arena names)
-replaced NonClass a arena names its space kind chunks rises holds others = record {
-  arena = record { space_is = space ∙ its.arena.space_is; kind_is = refl; chunks = chunks; holds = holds };
+replaced NonClass a arena names its space kind rises holds others = record {
+  arena = record { space_is = space ∙ its.arena.space_is; kind_is = refl; holds = holds };
   class_arena = record {
     space_is = its.class_arena.space_is;
     kind_is = its.class_arena.kind_is ∙ sym kind;
-    chunks = its.class_arena.chunks;
     holds = subst (Holds a.class_arena) (sym others) its.class_arena.holds;
   };
   names = rises;
 }
-replaced Class a arena names its space kind chunks rises holds others = record {
+replaced Class a arena names its space kind rises holds others = record {
   arena = record {
     space_is = its.arena.space_is;
     kind_is = refl;
-    chunks = its.arena.chunks;
     holds = subst (Holds a.arena) (sym others) its.arena.holds;
   };
   class_arena = record {
     space_is = space ∙ its.class_arena.space_is;
     kind_is = kind ∙ its.class_arena.kind_is;
-    chunks = chunks;
     holds = holds;
   };
   names = rises;

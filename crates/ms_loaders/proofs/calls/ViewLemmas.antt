@@ -37,7 +37,7 @@ view_is_sound a its = record {
   };
   chunks = λ space. rw (books_of a space)
       (subst (λ (one : Space). AreChunks one (arena_in space a).books.chunks) (is_arena a its space).space_is
-      (is_arena a its space).chunks);
+      (is_arena a its space).holds.chunks);
 }
 
 -- The account of an arena is the loader's in its space.

@@ -22,6 +22,7 @@ use Rattle.ms_loaders.specs.System.{AreTogether}
 use Rattle.ms_loaders.specs.CallEvents.{IsEvent, IsOpenCall, OpensLoader}
 use Rattle.ms_loaders.proofs.steps.StepLemmas.{lacks_loader}
 use Rattle.ms_loaders.proofs.steps.CloseLemmas.{with_both, first_account, second_account, together_made, machine_made}
+use Rattle.ms_loaders.proofs.calls.EmptyLemmas.{nothing_lent}
 use Rattle.ms_loaders.proofs.events.TalliedLemmas.{together_tallied}
 
 -- A ledger is sound still where more owner numbers are given out, and accounts opened for them.
@@ -49,21 +50,12 @@ sound_with_both old given sound = record {
     each Class = sound.spaces Class
 
 -- A new loader is sound.
-no_chunks : (space : Space) → AreChunks space []
-no_chunks space = record {
-  parts = All-from_recursion _ [] tt;
-  inside = All-from_recursion _ [] tt;
-  fronts = All-from_recursion _ [] tt;
-  apart = refl;
-  few = omega arith;
-}
-
 pub new_is_sound : (kind : Kind) (a b : AccountState) → IsSoundView (new_loader a b kind)
 new_is_sound kind a b = record { sound = sound_when_empty kind; chunks = each }
   where
     each : (space : Space) → AreChunks space (arena_of space (empty_loader kind)).chunks
-    each NonClass = no_chunks NonClass
-    each Class = no_chunks Class
+    each NonClass = nothing_lent NonClass
+    each Class = nothing_lent Class
 
 -- Both accounts are opened, or none is.
 module _ (old : Ledger) (loaders : List (ℕ × LoaderView)) (name : ℕ) (kind : Kind) (its : AreTogether old loaders)

@@ -1,5 +1,5 @@
 -- Pool and loaders stay together where an account of one loader changes. The steps use these.
-use Rattle.std.proofs.Common.{◌≡◌, ◌≢◌, ◌+◌, ℕ, Option, Some, IfSome, Result}
+use Rattle.std.proofs.Common.{◌≡◌, ◌≢◌, ℕ, Option, Some, IfSome, Result}
 use Rattle.std.proofs.Common.{List, ◌∷◌, ◌++◌, map, sym, ap, ◌∙◌, subst}
 use Rattle.std.specs.Ordering.{nat_cmp}
 use Rattle.std.specs.List.{All, AllByRecursion}

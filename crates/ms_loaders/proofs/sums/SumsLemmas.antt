@@ -16,7 +16,7 @@ use Rattle.ms_loaders.proofs.calls.ViewLemmas.{arena_in, books_of, is_arena, wor
 -- The live words of an arena are those that it counts.
 pub within : (a : Inside) → IsLoader a → (space : Space)
     → IsWithin (arena_in space a) (named_runs space a.names.entries)
-within a its space = held_within (arena_in space a) (named_runs space a.names.entries) (is_arena a its space).chunks
+within a its space = held_within (arena_in space a) (named_runs space a.names.entries)
     (is_arena a its space).holds
 
 pub sums_of_arena : (a : Inside) → IsLoader a → (space : Space) (totals : ArenaTotals)

@@ -7,7 +7,7 @@ use Rattle.ms_arena.proofs.arena.Arena.account.Goals as goal
 
 pub returns-clause-sound : goal.returns-clause-sound
 returns-clause-sound c = rw (← c.self.view_is) (record {
-  chunks = c.account.ensures.chunks;
+  chunks = c.self.invariant.chunks;
   books = subst (IsSound c.self.inside.raw.books)
       (sym (runs_live c.self.inside.raw.words (by_name c.self.inside.live.entries))) c.self.invariant.sound;
   names = rises_live c.self.inside.raw.words (by_name c.self.inside.live.entries)
