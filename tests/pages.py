@@ -146,10 +146,10 @@ def with_lines(cell):
 
 
 def rows_of(text):
-    """The rows of the tables of promises, each with its number of line and its cells."""
+    """The rows of the tables of promises, each with its number of line and its cells, in the spaces that they stand in."""
     for number, line in enumerate(text.split("\n"), 1):
         if line.startswith("|") and "](" in line:
-            yield number, line.split(" | ")
+            yield number, line.strip()[1:-1].split("|")
 
 
 def with_set_lines(text):
@@ -159,7 +159,7 @@ def with_set_lines(text):
             cells[1] = with_lines(cells[1])
         except Wrong as wrong:
             raise Wrong(f"{PROMISES}, line {number}: {wrong}") from None
-        lines[number - 1] = " | ".join(cells)
+        lines[number - 1] = f"|{'|'.join(cells)}|"
     return "\n".join(lines)
 
 
@@ -170,7 +170,7 @@ def promises_lead_to_their_lines(_):
     wrong = [f"line {number} has stale lines of sources (python3 tests/pages.py --lines sets them)" for number, (one, other) in enumerate(
         zip(text.split("\n"), wanted.split("\n")), 1) if one != other]
     long = [f"line {number} has more than {MOST_WORDS_OF_A_PROMISE} words" for number, cells in rows_of(text)
-            if len(cells[0].split()) - 1 > MOST_WORDS_OF_A_PROMISE]
+            if len(cells[0].split()) > MOST_WORDS_OF_A_PROMISE]
     expect(not wrong and not long, *wrong, *long)
     return f"{len(list(rows_of(text)))} promises"
 
