@@ -1,7 +1,7 @@
-"""The pages: links and anchors, the lines of functions and clauses, examples, README's commands, and how many words each has.
+"""The pages: links and anchors, the lines of functions and clauses, examples, README's commands, and the words of each.
 
-`python3 tests/pages.py` holds all but the commands, which need the built program; `python3 tests/pages.py --lines` sets the lines
-that docs/PROMISES.md links to, after an edit of a source.
+`python3 tests/pages.py` holds all but the commands, which need the built program; `python3 tests/pages.py --lines` sets
+the lines that docs/PROMISES.md links to, after an edit of a source.
 """
 import functools
 import os
@@ -13,21 +13,24 @@ from claims import Test, Wrong, expect
 
 ROOT = os.path.dirname(os.path.dirname(os.path.abspath(__file__)))
 PROMISES = "docs/PROMISES.md"
-# The most words of each page, as `wc -w` counts them, and of all of them together.
+# The most words of each page, and of all of them together: what has a letter or a digit, so no bars of tables.
 MOST_WORDS = {
-    "README.md": 1500, "docs/ARCHITECTURE.md": 3000, "docs/DECISIONS.md": 4000, "docs/FORMATS.md": 2500, "docs/MODEL.md": 3500,
-    "docs/PROMISES.md": 6000, "docs/PROVING.md": 7000, "docs/STYLE.md": 1800, "bench/README.md": 1500,
+    "README.md": 1500, "docs/ARCHITECTURE.md": 3000, "docs/DECISIONS.md": 4000, "docs/FORMATS.md": 2500,
+    "docs/MODEL.md": 3500, "docs/PROMISES.md": 6000, "docs/PROVING.md": 7000, "docs/STYLE.md": 1800,
+    "bench/README.md": 1500,
 }
 COUNTED = re.compile(r"README\.md|docs/\w+\.md|(bench|tests|examples|crates/\w+)/README\.md")
 MOST_IN_ALL = 25000
 MOST_LINES = 130
 MOST_WORDS_OF_A_PROMISE = 30
-# What a command of README begins with; which of them take minutes, and which begin with a JVM of the reader's.
+# What a command of README begins with; and those that take minutes, or begin with a JVM of the reader's.
 COMMANDS = ("./", "java ", "make ", "python3 ", "bench/", "(cd ")
 NOT_RUN = ("./check", "./metarun --prove", "bench/all", "java ")
 LINK = re.compile(r"(?<!!)\[([^\]]*)\]\(([^)\s]+)\)")
 SOURCE_LINK = re.compile(r"\[([^\]]*)\]\((\.\./[^)\s#]+\.rt)(#L\d+)?\)")
-FENCE = re.compile(r"^ *```.*?^ *```$", re.MULTILINE | re.DOTALL)
+FENCED = re.compile(r"^ *```.*?^ *```$", re.MULTILINE | re.DOTALL)
+BODY = re.compile(r"(pub )?(unsafe )?(impl|trait)\b")
+EDITS = re.compile(r"`(\w+)/(?:\{([\w,]+)\}|(\w+))?([\w*]*)`")
 
 
 def read(path):
@@ -36,7 +39,7 @@ def read(path):
 
 
 def pages():
-    """The pages of the repository, but for what builds leave."""
+    """The pages of the repository; what builds leave has none."""
     found = []
     for folder, folders, files in os.walk(ROOT):
         folders[:] = [name for name in folders if name not in ("out", "target", ".git")]
@@ -44,34 +47,38 @@ def pages():
     return sorted(found)
 
 
+def beside(page, target):
+    """The path of a file that a page names."""
+    return os.path.normpath(os.path.join(os.path.dirname(page), target))
+
+
 def prose_of(text):
-    """A page without its code: fenced blocks, indented ones, and what stands between backquotes, but for links' texts."""
-    lines = FENCE.sub("", text).split("\n")
-    return "\n".join(line for line in lines if not line.startswith("    "))
+    """A page without its blocks of code."""
+    return "\n".join(line for line in FENCED.sub("", text).split("\n") if not line.startswith("    "))
+
+
+def paragraphs_of(text):
+    return re.split(r"\n\n+", FENCED.sub("", text))
 
 
 @functools.cache
 def anchors_of(path):
-    """The anchors of a page's headings, as GitHub makes them."""
-    found = set()
-    for heading in re.findall(r"^#+ (.*)$", FENCE.sub("", read(path)), re.MULTILINE):
+    """The anchors of a page's headings, as GitHub makes them: a second heading of one text has a number."""
+    found = []
+    for heading in re.findall(r"^#+ (.*)$", FENCED.sub("", read(path)), re.MULTILINE):
         plain = re.sub(r"[^\w\- ]", "", LINK.sub(r"\1", heading).lower()).replace(" ", "-")
-        count = sum(1 for number in range(100) if (f"{plain}-{number}" if number else plain) in found)
-        found.add(f"{plain}-{count}" if count else plain)
-    return found
+        found.append(plain)
+    return {f"{plain}-{count}" if (count := found[:place].count(plain)) else plain for place, plain in enumerate(found)}
 
 
 def broken(page, target):
     """What is wrong with a link of a page, or nothing."""
     path, _, anchor = target.partition("#")
-    path = os.path.normpath(os.path.join(os.path.dirname(page), path)) if path else page
+    path = beside(page, path) if path else page
     if not os.path.exists(os.path.join(ROOT, path)):
         return "there is no such file"
     if anchor and path.endswith(".md") and anchor not in anchors_of(path):
         return "there is no such heading"
-    line = re.fullmatch(r"L(\d+)", anchor)
-    if line and int(line[1]) > read(path).count("\n"):
-        return "the file is shorter"
     return None
 
 
@@ -89,70 +96,74 @@ def lines_of(path):
     return read(path).split("\n")
 
 
+def impl_line(path, name):
+    """The line of an impl, by its words."""
+    words = [re.compile(rf"\b{word}\b") for word in name.split() if word != "for"]
+    for number, line in enumerate(lines_of(path), 1):
+        if line.startswith("impl") and all(word.search(line) for word in words):
+            return number
+    return None
+
+
 def item_line(path, name, owner):
-    """The line of a function, a type or an impl, by its name; a function's owner is the type that its name or the one before has."""
-    lines = lines_of(path)
-    if name.startswith("impl "):
-        wanted = name.removeprefix("impl ").split(" for ")
-        found = [number for number, line in enumerate(lines, 1) if line.startswith("impl") and all(
-            re.search(rf"\b{part}\b", line) for part in wanted)]
-        return found[0] if found else None
+    """The line of a type, or of a function: that of its owner first, and rather in an impl of no trait."""
     found, within = [], ""
-    for number, line in enumerate(lines, 1):
-        if re.match(r"(pub )?(unsafe )?(impl|trait)\b", line):
+    for number, line in enumerate(lines_of(path), 1):
+        if BODY.match(line) or line.startswith("}"):
             within = line
-        elif line.startswith("}"):
-            within = ""
+        if re.match(rf"(pub(\(crate\))? )?(struct|enum|trait|type) {name}\b", line):
+            return number
         if re.search(rf"\bfn {name}\b", line):
-            of_owner = bool(owner) and bool(re.search(rf"\b{owner}\b", within))
-            plain = " for " not in within
-            found.append((not (of_owner if owner else not within), not plain, number))
-        elif re.match(rf"(pub(\(crate\))? )?(struct|enum|trait|type) {name}\b", line):
-            found.append((False, False, number))
+            stands = re.search(rf"\b{owner}\b", within) if owner else not BODY.match(within)
+            found.append((not stands, " for " in within, number))
     return min(found)[2] if found else None
 
 
 def clause_line(path, label, starts):
-    """The line of a clause: the first one with its label below an item of its cell, the nearest one before the link first."""
+    """The line of a clause with this label, below one of the items that begin at these lines: the last one first."""
     for start in reversed(starts):
-        for number, line in enumerate(lines_of(path)[start - 1:], start):
+        is_function = "fn " in lines_of(path)[start - 1]
+        for number, line in enumerate(lines_of(path)[start:], start + 1):
             if re.search(rf"\b{label} \{{", line):
                 return number
-            if number > start and re.match(r" *(pub(\(\w+\))? )?fn |[a-z].*\bfn ", line) and not lines_of(path)[
-                    start - 1].startswith(("impl", "pub trait", "pub struct")):
+            if is_function and re.search(r"\bfn \w", line):
                 break
     return None
 
 
 def with_lines(cell):
-    """A cell of functions and clauses, each of whose links leads to the line of what it names: code names an item, plain text a clause."""
+    """A cell whose links lead to the lines of what they name: a text between backquotes an item, any other a clause."""
     owner, starts = "", {}
 
     def line_of(link):
         nonlocal owner
         text, target, _ = link.groups()
-        path = os.path.normpath(os.path.join("docs", target))
-        if text.startswith("`"):
-            *type_, name = text.strip("`").split("::")
-            owner = type_[-1] if type_ else owner
-            line = item_line(path, name, owner)
-            starts.setdefault(path, []).append(line or 1)
+        path, name = beside(PROMISES, target), text.strip("`")
+        if text == name:
+            line = clause_line(path, name, starts.get(path, []))
+        elif name.startswith("impl "):
+            line = impl_line(path, name.removeprefix("impl "))
         else:
-            line = clause_line(path, text, starts.get(path, []))
-        expect(line, "nothing is named so:", text, target)
+            *types, name = name.split("::")
+            owner = types[-1] if types else owner
+            line = item_line(path, name, owner)
+        expect(line, "nothing is named", text, "in", path)
+        if text != name:
+            starts.setdefault(path, []).append(line)
         return f"[{text}]({target}#L{line})"
 
     return SOURCE_LINK.sub(line_of, cell)
 
 
 def rows_of(text):
-    """The rows of the tables of promises, each with its number of line and its cells, in the spaces that they stand in."""
+    """The rows of the tables of promises: each with its number of line, and its cells."""
     for number, line in enumerate(text.split("\n"), 1):
         if line.startswith("|") and "](" in line:
             yield number, line.strip()[1:-1].split("|")
 
 
 def with_set_lines(text):
+    """The page of promises with the lines that its functions and clauses have now."""
     lines = text.split("\n")
     for number, cells in rows_of(text):
         try:
@@ -164,25 +175,25 @@ def with_set_lines(text):
 
 
 def promises_lead_to_their_lines(_):
-    """Each promise links to the line of its function and of its clause, and has at most thirty words."""
+    """Each promise leads to the lines of its function and of its clause, and has few words."""
     text = read(PROMISES)
-    wanted = with_set_lines(text)
-    wrong = [f"line {number} has stale lines of sources (python3 tests/pages.py --lines sets them)" for number, (one, other) in enumerate(
-        zip(text.split("\n"), wanted.split("\n")), 1) if one != other]
-    long = [f"line {number} has more than {MOST_WORDS_OF_A_PROMISE} words" for number, cells in rows_of(text)
-            if len(cells[0].split()) > MOST_WORDS_OF_A_PROMISE]
-    expect(not wrong and not long, *wrong, *long)
-    return f"{len(list(rows_of(text)))} promises"
+    rows, lines = list(rows_of(text)), text.split("\n")
+    now = with_set_lines(text).split("\n")
+    stale = [number for number, _ in rows if lines[number - 1] != now[number - 1]]
+    expect(not stale, "python3 tests/pages.py --lines sets the lines of sources anew, in the rows of lines", stale)
+    long = [number for number, cells in rows if len(cells[0].split()) > MOST_WORDS_OF_A_PROMISE]
+    expect(not long, "a sentence has too many words in lines", long)
+    return f"{len(rows)} promises"
 
 
 def edits_are_named(_):
-    """Each wrong body stands in a row of the promises, and each row's names are of some."""
-    there = {f"{crate}/{file.removesuffix('.edit')}" for crate in os.listdir(os.path.join(ROOT, "crates"))
-             if os.path.isdir(os.path.join(ROOT, "crates", crate, "must-fail"))
-             for file in os.listdir(os.path.join(ROOT, "crates", crate, "must-fail")) if file.endswith(".edit")}
-    named = {crate + "/" + first + rest for _, cells in rows_of(read(PROMISES))
-             for crate, some, first_one, rest in re.findall(r"`(\w+)/(?:\{([\w,]+)\}|(\w+))?([\w*]*)`", cells[-1])
-             for first in (some or first_one).split(",")}
+    """Each wrong body stands in a row of the promises, and each name there is of one."""
+    crates = os.path.join(ROOT, "crates")
+    there = {f"{crate}/{file.removesuffix('.edit')}" for crate in os.listdir(crates)
+             if os.path.isdir(os.path.join(crates, crate, "must-fail"))
+             for file in os.listdir(os.path.join(crates, crate, "must-fail")) if file.endswith(".edit")}
+    named = {f"{crate}/{first}{rest}" for _, cells in rows_of(read(PROMISES))
+             for crate, some, one, rest in EDITS.findall(cells[-1]) for first in (some or one).split(",")}
     shapes = [re.compile(re.escape(name).replace(r"\*", r"\w*")) for name in sorted(named)]
     missing = sorted(edit for edit in there if not any(shape.fullmatch(edit) for shape in shapes))
     empty = sorted(shape.pattern for shape in shapes if not any(shape.fullmatch(edit) for edit in there))
@@ -190,62 +201,45 @@ def edits_are_named(_):
     return f"{len(there)} wrong bodies"
 
 
-def blocks_of(text):
-    """The indented blocks of a page that follow a paragraph, which ends in a colon, with the links of that paragraph."""
-    paragraphs = re.split(r"\n\n+", FENCE.sub("", text))
+def examples_of(text):
+    """The examples of a page, each with its output: a block after a paragraph that ends in a colon and links to one."""
+    paragraphs = paragraphs_of(text)
     for before, block in zip(paragraphs, paragraphs[1:]):
-        if block.startswith("    ") and before.rstrip().endswith(":"):
-            yield [target for _, target in LINK.findall(before)], [line[4:] for line in block.rstrip().split("\n")]
+        outputs = [target for _, target in LINK.findall(before) if target.endswith(".out")]
+        if block.startswith("    ") and before.rstrip().endswith(":") and outputs:
+            yield outputs[-1], [line[4:] for line in block.rstrip().split("\n")]
 
 
-def missing_line(block, lines):
-    """The first line of a block that the file's lines don't have in this order; a line `..` stands for some."""
-    at, gap = 0, True
-    for line in block:
-        if line == "..":
-            gap = True
-            continue
-        places = [place for place in range(at, len(lines)) if lines[place] == line][:None if gap else 1]
-        if not places or not gap and places[0] != at:
-            return line
-        at, gap = places[0] + 1, False
-    return None
-
-
-def starts_of(block, lines):
-    """Whether the block is found in the file, from any line that begins it."""
-    if not block or block[0] == "..":
-        return missing_line(block, lines) is None
-    return any(missing_line(block, lines[place:]) is None for place in range(len(lines)) if lines[place] == block[0])
+def stands_in(block, lines):
+    """Whether these lines have those of the block, one after another; a line `..` of it stands for any number."""
+    gap = re.escape("..\n")
+    shape = re.escape("".join(f"{line}\n" for line in block)).replace(gap, r"(?:.*\n)*?")
+    return re.search(f"^{shape}", "".join(f"{line}\n" for line in lines), re.MULTILINE) is not None
 
 
 def examples_are_their_files(_):
-    """Each example of a page, an indented block after a link to an output and a colon, has that file's lines."""
-    wrong, count = [], 0
-    for page in pages():
-        for links, block in blocks_of(read(page)):
-            outputs = [target for target in links if target.endswith(".out")]
-            if outputs:
-                path, count = os.path.normpath(os.path.join(os.path.dirname(page), outputs[-1])), count + 1
-                if not starts_of(block, read(path).split("\n")):
-                    wrong.append(f"{page}: {path} has no such lines: {block[0]} ..")
+    """Each example of a page has the lines of its file."""
+    examples = [(page, beside(page, output), block) for page in pages() for output, block in examples_of(read(page))]
+    wrong = [f"{page}: {file} has no such lines: {block[0]}" for page, file, block in examples
+             if not stands_in(block, lines_of(file))]
     expect(not wrong, *wrong)
-    return f"{count} examples"
+    return f"{len(examples)} examples"
 
 
 def words_are_bounded(_):
     """Each page, and all of them together, have no more words than they may, and README no more lines."""
-    counts = {page: len(read(page).split()) for page in pages() if COUNTED.fullmatch(page)}
-    wrong = [f"{page} has {counts[page]} words of {most}" for page, most in MOST_WORDS.items() if counts[page] > most]
-    wrong += [f"README.md has {lines} lines"] if (lines := read("README.md").count("\n")) > MOST_LINES else []
-    wrong += [f"all pages have {sum(counts.values())} words of {MOST_IN_ALL}"] if sum(counts.values()) > MOST_IN_ALL else []
-    expect(not wrong, *wrong)
-    return f"{sum(counts.values())} words"
+    counts = {page: len(re.findall(r"\S*\w\S*", read(page))) for page in pages() if COUNTED.fullmatch(page)}
+    lines, whole = read("README.md").count("\n"), sum(counts.values())
+    long = [f"{page} has {counts[page]} words of {most}" for page, most in MOST_WORDS.items() if counts[page] > most]
+    expect(not long, *long)
+    expect(lines <= MOST_LINES, f"README.md has {lines} lines of {MOST_LINES}")
+    expect(whole <= MOST_IN_ALL, f"all pages have {whole} words of {MOST_IN_ALL}")
+    return f"{whole} words"
 
 
 def commands_of(text):
-    """The commands of a page: the lines of its indented blocks that begin as commands do."""
-    for block in re.split(r"\n\n+", FENCE.sub("", text)):
+    """The commands of a page: the lines of its blocks that begin as commands do."""
+    for block in paragraphs_of(text):
         if block.startswith(tuple(f"    {word}" for word in COMMANDS)):
             yield from (line.strip() for line in block.split("\n"))
 
@@ -285,7 +279,7 @@ def main(words):
     for test in tests():
         if test.function is not is_run:
             try:
-                print(f"ok: {test.name}: {test.function(None, *test.arguments)}")
+                print(f"ok: {test.name}: {test.function(None)}")
             except Wrong as wrong:
                 print(f"FAILED: {test.name}: {wrong}")
                 failed += 1
