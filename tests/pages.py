@@ -202,12 +202,12 @@ def edits_are_named(_):
 
 
 def examples_of(text):
-    """The examples of a page, each with its output: a block after a paragraph that ends in a colon and links to one."""
+    """The examples of a page, each with its file: a block after a paragraph that ends in a colon and links to one."""
     paragraphs = paragraphs_of(text)
     for before, block in zip(paragraphs, paragraphs[1:]):
-        outputs = [target for _, target in LINK.findall(before) if target.endswith(".out")]
-        if block.startswith("    ") and before.rstrip().endswith(":") and outputs:
-            yield outputs[-1], [line[4:] for line in block.rstrip().split("\n")]
+        files = [target for _, target in LINK.findall(before) if target.endswith((".out", ".trace"))]
+        if block.startswith("    ") and before.rstrip().endswith(":") and files:
+            yield files[-1], [line[4:] for line in block.rstrip().split("\n")]
 
 
 def stands_in(block, lines):
@@ -219,7 +219,7 @@ def stands_in(block, lines):
 
 def examples_are_their_files(_):
     """Each example of a page has the lines of its file."""
-    examples = [(page, beside(page, output), block) for page in pages() for output, block in examples_of(read(page))]
+    examples = [(page, beside(page, file), block) for page in pages() for file, block in examples_of(read(page))]
     wrong = [f"{page}: {file} has no such lines: {block[0]}" for page, file, block in examples
              if not stands_in(block, lines_of(file))]
     expect(not wrong, *wrong)
