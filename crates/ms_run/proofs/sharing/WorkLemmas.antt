@@ -26,7 +26,7 @@ use Rattle.ms_run.proofs.ActLemmas.{acted_none, acted_more}
 use Rattle.ms_run.specs.Answering.{IsAnswered}
 use Rattle.ms_run.specs.Manned.{IsManned}
 use Rattle.ms_run.specs.Moved.{IsMoved}
-use Rattle.ms_run.specs.Own.{Said, own_said, own_in, OwnRun, ArePurged}
+use Rattle.ms_base.specs.Run.Own.{Said, own_said, own_in, OwnRun, ArePurged}
 use Rattle.ms_run.specs.Shares.{said_in, IsWorked}
 use Rattle.ms_run.specs.declared.share.Task.{Task}
 use Rattle.ms_run.specs.declared.share.Share.{Share}
