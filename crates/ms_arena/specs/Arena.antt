@@ -13,6 +13,7 @@ use Rattle.ms_base.specs.State.{ArenaState, empty_arena}
 use Rattle.ms_base.specs.Good.{IsSound}
 use Rattle.ms_base.specs.Place.{placed}
 use Rattle.ms_pool.specs.Account.{AccountState, AreChunks}
+use Rattle.ms_pool.specs.Source.{IsTakeRefusal}
 
 -- An arena has its owner's number, its space, its loader's kind; its chunks, tops and free blocks;
 -- and its live blocks, as contents by start.
@@ -75,6 +76,11 @@ PlaceRefused words ZeroWords = words ≡ 0
 PlaceRefused words TooLarge = size_of 0 < words
 PlaceRefused words OutOfMemory = IsAskable words
 PlaceRefused words _ = ⊥
+
+-- Why no block is allocated: no place was looked for, or there was none, and the source lends no
+-- chunk.
+abbrev pub AllocRefused : ℕ → Refusal → Type 0
+AllocRefused words refusal = PlaceRefused words refusal ⊎ (IsAskable words × IsTakeRefusal refusal)
 
 -- A block is placed where it has a place without a chunk, and nothing changes where it has none.
 abbrev pub PlacedAt : ArenaView → ℕ → Option (ℕ × ArenaState) → Option Block → ArenaView → Type 0

@@ -17,7 +17,7 @@ ghost use Rattle.ms_base.specs.Hashed.{by_name};
 ghost use Rattle.ms_base.specs.Names.{named, with_new};
 ghost use Rattle.ms_base.specs.Totals.{used_of};
 ghost use Rattle.ms_pool.specs.Source.{LeavesRest};
-ghost use Rattle.ms_arena.specs.Arena.{IsSoundArena, IsNotLive, Places, PlaceRefused, ReadsWord, WritesWord};
+ghost use Rattle.ms_arena.specs.Arena.{IsSoundArena, IsNotLive, Places, PlaceRefused, AllocRefused, ReadsWord, WritesWord};
 ghost use Rattle.ms_arena.specs.Arena.{LacksWord, WordRefused, FreesBlock, account_of, new_arena};
 ghost use Rattle.ms_arena.specs.Alloc.{Allocates};
 ghost use Rattle.ms_arena.specs.ArenaSums.{AreSums};
@@ -107,8 +107,9 @@ impl Arena {
     /// Allocates a block of so many words, at least two, whose words are 0: where it has a place
     /// without a chunk; else at the current chunk's top, once the source has grown that chunk; else
     /// at the start of a new chunk, and the former current chunk retires. Refused with `ZeroWords`,
-    /// with `TooLarge`, with `OutOfMemory`, and as the source's `take` refuses; a refusal leaves
-    /// the arena as it was. Takes memory, all of its own before the source is asked.
+    /// with `TooLarge`, with `OutOfMemory`, and as the source's `take` refuses, so with
+    /// `CommitLimit` and `ReserveLimit`; a refusal leaves the arena as it was. Takes memory, all of
+    /// its own before the source is asked.
     pub fn alloc<S: ChunkSource>(&mut self, source: &mut S, words: u64) -> Result<Block, Refusal>
         requires { S.serves source.old (account_of self.old) }
         ensures served { S.serves source.new (account_of self.new) }
@@ -116,6 +117,7 @@ impl Arena {
         ensures fresh { IfOk result (λ block. named self.old.live block.start ≡ None) }
         ensures allocates { Allocates S.grew S.took (S.limits source.old).policy self.old words
             source.old result self.new source.new }
+        ensures refused { IfErr result (AllocRefused words) }
         ensures unchanged { OnErr result (self.new ≡ self.old) }
     {
         made_room(&mut self.live, words)?;

@@ -19,7 +19,7 @@ ghost use Rattle.ms_base.specs.Place.{placed, current, current_top, with_rest, t
 ghost use Rattle.ms_base.specs.Totals.{used_of, kept_of};
 ghost use Rattle.ms_blocks.specs.FreeBlocks.{MayBeKept, run_of};
 ghost use Rattle.ms_pool.specs.Account.{AreChunks};
-ghost use Rattle.ms_pool.specs.Source.{LeavesRest};
+ghost use Rattle.ms_pool.specs.Source.{LeavesRest, IsTakeRefusal};
 ghost use Rattle.ms_arena.specs.Books.{BooksView, Awaits, AwaitsBlock, HasGrown, HasTaken, Leaves, MayGrow, MayPlace};
 ghost use Rattle.ms_arena.specs.Books.{IsCurrent, PlacesFree, MayRetire, StayCounted, tops_retired, kept_retired};
 ghost use Rattle.ms_arena.specs.Books.{account_in};
@@ -276,6 +276,7 @@ impl Books {
         ensures leaves { Leaves self.old n result self.new }
         ensures refused { IfErr result (λ refusal. S.took source.old (account_in self.old)
             wanted most n (Err refusal) source.new) }
+        ensures refusal { IfErr result IsTakeRefusal }
     {
         let former = self.current();
         let span = source.take(&mut self.account, wanted, most, n)?;

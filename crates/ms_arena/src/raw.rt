@@ -23,8 +23,8 @@ ghost use Rattle.ms_base.specs.Asks.{asks_growth, next_level};
 ghost use Rattle.ms_base.specs.Totals.{used_of, kept_of};
 ghost use Rattle.ms_blocks.specs.FreeBlocks.{run_of};
 ghost use Rattle.ms_pool.specs.Account.{AreChunks};
-ghost use Rattle.ms_pool.specs.Source.{LeavesRest};
-ghost use Rattle.ms_arena.specs.Arena.{IsAskable, Places, PlaceRefused, block_at};
+ghost use Rattle.ms_pool.specs.Source.{LeavesRest, IsTakeRefusal};
+ghost use Rattle.ms_arena.specs.Arena.{IsAskable, Places, PlaceRefused, AllocRefused, block_at};
 ghost use Rattle.ms_arena.specs.Alloc.{Allocates, FindsPlace, AsksChunk, TakesNew};
 ghost use Rattle.ms_arena.specs.ArenaSums.{AreSumsOf};
 ghost use Rattle.ms_arena.specs.Books.{AsksFor, Awaits, ForAllLive, HasLooked, IsSameBooks, MayLook};
@@ -157,8 +157,9 @@ impl RawArena {
     /// Allocates a block of so many words, at least two, whose words are 0: where it has a place
     /// without a chunk; else at the current chunk's top, once the source has grown that chunk; else
     /// at the start of a new chunk, and the former current chunk retires. Refused with `ZeroWords`,
-    /// with `TooLarge`, with `OutOfMemory`, and as the source's `take` refuses; a refusal leaves
-    /// the arena as it was. Takes memory, all of its own before the source is asked.
+    /// with `TooLarge`, with `OutOfMemory`, and as the source's `take` refuses, so with
+    /// `CommitLimit` and `ReserveLimit`; a refusal leaves the arena as it was. Takes memory, all of
+    /// its own before the source is asked.
     #[inline(always)]
     pub fn alloc<S: ChunkSource>(&mut self, source: &mut S, words: u64) -> Result<Block, Refusal>
         requires { S.serves source.old (raw_account self.old) }
@@ -167,6 +168,7 @@ impl RawArena {
         ensures allocates { (live : List (ℕ × List ℕ)) → Allocates S.grew S.took (S.limits source.old).policy
             (with_live self.old live) words source.old result (with_live self.new (live_then live result)) source.new }
         ensures gains { IfOk result (λ block. Gains self.old block self.new) }
+        ensures refused { IfErr result (AllocRefused words) }
         ensures unchanged { OnErr result (IsSameRaw self.old self.new) }
     {
         let many = self.expects_many();
@@ -367,6 +369,7 @@ fn start_of<S: ChunkSource>(
     ensures serves { ForAllLive books.old kind n result books.new.state (λ arena answer new.
         FindsPlace S.grew S.took (S.limits source.old).policy arena n (placed books.old.state n)
         source.old answer new source.new) }
+    ensures refused { IfErr result IsTakeRefusal }
 {
     match books.place(n) {
         Some(start) => Ok(start),
@@ -387,6 +390,7 @@ fn start_in_chunk<S: ChunkSource>(
     ensures asks { ForAllLive books.old kind n result books.new.state (λ arena answer new.
         AsksChunk S.grew S.took (S.limits source.old).policy arena n (current arena.books)
         (asks_growth kind arena.space arena.books (current arena.books) n) source.old answer new source.new) }
+    ensures refused { IfErr result IsTakeRefusal }
 {
     let next = books.next_level(kind);
     let Some((chunk, total, may_enlarge)) = growth_asked(books, next, n) else {
@@ -412,6 +416,7 @@ fn start_in_taken<S: ChunkSource>(
     ensures takes { (kind : Kind) → next ≡ next_level kind books.old.space books.old.state
         → ForAllLive books.old kind n result books.new.state (λ arena answer new.
         TakesNew S.took (S.limits source.old).policy arena n source.old answer new source.new) }
+    ensures refused { IfErr result IsTakeRefusal }
 {
     let Some(most) = level_for(n) else {
         return Err(Refusal::TooLarge);

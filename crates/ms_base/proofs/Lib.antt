@@ -6,3 +6,4 @@ pub mod granules
 pub mod machine
 pub mod arena
 pub mod events
+pub mod own

@@ -1,7 +1,10 @@
--- What a call on any source of chunks leaves as it is.
+-- What a call on any source of chunks leaves as it is, and what it may be refused with.
 use Rattle.std.specs.Prelude.{◌≡◌, ◌≢◌, ℕ}
 use Rattle.ms_base.specs.declared.kind.Space.{Space}
 use Rattle.ms_base.specs.declared.kind.Space.TheVariants.{NonClass, Class}
+use Rattle.ms_base.specs.declared.refusal.Refusal.{Refusal}
+use Rattle.ms_base.specs.declared.refusal.Refusal.TheVariants.{CommitLimit, ReserveLimit, OutOfMemory, IdsUsedUp}
+use Rattle.ms_base.specs.declared.refusal.Refusal.TheVariants.{NoRoom}
 use Rattle.ms_base.specs.State.{Limits}
 use Rattle.ms_pool.specs.Account.{AccountState}
 
@@ -20,3 +23,22 @@ pub record ServesBoth {S : Type 0} (serves : S → AccountState → Type 0) (sou
   pub class_served : serves source class_account
   pub space : account.space ≡ NonClass
   pub class_space : class_account.space ≡ Class
+
+-- Why a source lends no chunk: a limit is met, or memory is wanting.
+abbrev pub IsTakeRefusal : Refusal → Type 0
+IsTakeRefusal (CommitLimit committed limit need) = Unit {0}
+IsTakeRefusal (ReserveLimit nodes limit) = Unit {0}
+IsTakeRefusal OutOfMemory = Unit {0}
+IsTakeRefusal _ = ⊥
+
+-- Why it lets no chunk grow: the limit of granules is met, or there is no room in the chunk's place.
+abbrev pub IsGrowRefusal : Refusal → Type 0
+IsGrowRefusal (CommitLimit committed limit need) = Unit {0}
+IsGrowRefusal (NoRoom level) = Unit {0}
+IsGrowRefusal _ = ⊥
+
+-- Why it opens no account: the owner numbers are used up, or memory is wanting.
+abbrev pub IsOpenRefusal : Refusal → Type 0
+IsOpenRefusal IdsUsedUp = Unit {0}
+IsOpenRefusal OutOfMemory = Unit {0}
+IsOpenRefusal _ = ⊥

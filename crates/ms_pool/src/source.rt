@@ -5,7 +5,7 @@
 //! account's chunks. Each call keeps all of them served, changes the chunks of its own accounts
 //! alone and stands in a relation that the source states itself. `take` takes memory; a source
 //! behind a lock waits in each call.
-ghost use Rattle.std.specs.Prelude.{◌≡◌, ◌≢◌, ℕ, ◌+◌, ◌<◌, Bool, [], Result, IfOk, OnErr, OnOk, MatchResult};
+ghost use Rattle.std.specs.Prelude.{◌≡◌, ◌≢◌, ℕ, ◌+◌, ◌<◌, Bool, [], Result, IfOk, IfErr, OnErr, OnOk, MatchResult};
 ghost use Rattle.std.specs.Prelude.{IsTrue};
 ghost use Rattle.ms_base.specs.declared.kind.Space.{Space};
 ghost use Rattle.ms_base.specs.declared.span.Span.{Span};
@@ -13,7 +13,7 @@ ghost use Rattle.ms_base.specs.declared.refusal.Refusal.{Refusal};
 ghost use Rattle.ms_base.specs.State.{Limits};
 ghost use Rattle.ms_pool.specs.Account.{AccountState, AreChunks, has_chunk_at};
 ghost use Rattle.ms_pool.specs.Lending.{Adds, Grows, MayTake};
-ghost use Rattle.ms_pool.specs.Source.{LeavesRest, ServesBoth};
+ghost use Rattle.ms_pool.specs.Source.{LeavesRest, ServesBoth, IsTakeRefusal, IsGrowRefusal, IsOpenRefusal};
 ghost use Rattle.ms_pool.specs.Calls.{new_account};
 ghost use Rattle.ms_pool.specs.declared.totals.PoolTotals.{PoolTotals};
 
@@ -42,8 +42,8 @@ pub trait ChunkSource {
 
     /// Lends a chunk to the account, of a level from the wanted one up to the most that serves,
     /// with a front for so many words, 1 to the size of the latter; it comes last. Refused with
-    /// `ReserveLimit`, with `CommitLimit`, and with `OutOfMemory`, in that order; then the account
-    /// is as it was. Takes memory.
+    /// `ReserveLimit`, with `CommitLimit` and with `OutOfMemory` alone, in that order; then the
+    /// account is as it was. Takes memory.
     fn take(
         &mut self,
         account: &mut Account,
@@ -58,13 +58,14 @@ pub trait ChunkSource {
         ensures added { IfOk result
             (λ span. Adds (limits self.old).policy wanted most words account.old span account.new) }
         ensures unchanged { OnErr result (account.new ≡ account.old) }
+        ensures refused { IfErr result IsTakeRefusal }
         ensures holds { OnOk result (AreChunks account.new.space account.new.chunks) }
         ensures took { took self.old account.old wanted most words result self.new };
 
     /// Makes the front of the account's chunk that starts there reach so many words, in its place:
     /// the front rises, or a leader whose buddy is one free part becomes its parent where it may be
-    /// enlarged. Refused with `NoRoom` and the chunk's level, and with `CommitLimit`; then the
-    /// account is as it was. Takes no memory.
+    /// enlarged. Refused with `NoRoom` and the chunk's level, and with `CommitLimit` alone; then
+    /// the account is as it was. Takes no memory.
     fn grow(
         &mut self,
         account: &mut Account,
@@ -79,6 +80,7 @@ pub trait ChunkSource {
         ensures grown { IfOk result
             (λ span. Grows (limits self.old).policy start total may_enlarge account.old span account.new) }
         ensures unchanged { OnErr result (account.new ≡ account.old) }
+        ensures refused { IfErr result IsGrowRefusal }
         ensures holds { OnOk result (AreChunks account.new.space account.new.chunks) }
         ensures grew { grew self.old account.old start total may_enlarge result self.new };
 
@@ -116,13 +118,14 @@ pub trait AccountSource: ChunkSource {
     ghost purged: { Self → ℕ → Self → Type 0 };
 
     /// Opens an account in each space, by one event; the first is not the class space's. Refused
-    /// with `IdsUsedUp` where fewer than two owner numbers are left; then no account is open that
-    /// wasn't. Takes no memory.
+    /// with `IdsUsedUp` where fewer than two owner numbers are left, and with `OutOfMemory` by a
+    /// source that needs memory; then no account is open that wasn't.
     fn open_both(&mut self) -> Result<(Account, Account), Refusal>
         ensures served { IfOk result
             (λ accounts. ServesBoth Self.serves self.new accounts.0 accounts.1) }
         ensures empty { IfOk result (λ accounts. accounts.0.chunks ≡ []) }
         ensures class_empty { IfOk result (λ accounts. accounts.1.chunks ≡ []) }
+        ensures refused { IfErr result IsOpenRefusal }
         ensures others { (other : AccountState) → Self.serves self.old other
             → Self.serves self.new other }
         ensures counted { (space : Space) → MatchResult result

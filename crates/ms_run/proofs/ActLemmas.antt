@@ -12,7 +12,7 @@ use Rattle.ms_shared.proofs.LockCloseLemmas.{both_served_by_pool}
 use Rattle.ms_loaders.specs.Loader.{LoaderView, account_in}
 use Rattle.ms_shared.specs.History.{Event}
 use Rattle.ms_shared.specs.SeatView.{SeatState, ServesBy, OverLock}
-use Rattle.ms_run.specs.Own.{Said}
+use Rattle.ms_base.specs.Run.Own.{Said}
 use Rattle.ms_run.specs.Acts.{IsClosing, Makes, HasMade, Act, IsAct, IsOwnStep, said_of, events_by, Works, HasActed}
 
 pub made_none : (seat : SeatState) (are : List Event → Type 0) → are [] → HasMade seat seat are

@@ -29,7 +29,7 @@ use Rattle.ms_shared.specs.LockCalls.{TookOver, GrewOver, OpenedBothOver, Closed
 use Rattle.ms_shared.proofs.LockCallLemmas.{IsCall, served_by_pool, serves_then, close_both_counts}
 use Rattle.ms_shared.proofs.LockOpenLemmas.{open_both_serve, class_open_both_serve, open_both_others, open_both_counts}
 use Rattle.ms_shared.proofs.LockCloseLemmas.{closes_both, both_known}
-use Rattle.ms_run.specs.Own.{own_in}
+use Rattle.ms_base.specs.Run.Own.{own_in}
 use Rattle.ms_run.specs.Acts.{HasMade, Makes, Touches, AsksOf, Once, OfLoader, IsOpening, LacksLoader, start_of}
 use Rattle.ms_run.specs.Manned.{IsManned}
 use Rattle.ms_run.specs.Metering.{MovesNoTop}

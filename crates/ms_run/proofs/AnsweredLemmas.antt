@@ -23,7 +23,7 @@ use Rattle.ms_shared.specs.SeatView.{SeatState, ServesBy, opened_by}
 use Rattle.ms_shared.specs.LockCalls.{PurgedOver}
 use Rattle.ms_shared.proofs.LockCallLemmas.{served_by_pool, serves_then, counts_stay}
 use Rattle.ms_shared.proofs.LockCloseLemmas.{both_known}
-use Rattle.ms_run.specs.Own.{own_in}
+use Rattle.ms_base.specs.Run.Own.{own_in}
 use Rattle.ms_run.specs.Acts.{HasMade, Makes, Touches, Once, OfLoader, IsClosing, IsPurging}
 use Rattle.ms_run.specs.Manned.{IsManned}
 use Rattle.ms_run.specs.Metering.{MovesNoTop}

@@ -8,7 +8,7 @@ use Rattle.ms_trace.specs.declared.trace.Line.{Line}
 use Rattle.ms_loaders.specs.declared.details.Detail.{Detail}
 use Rattle.ms_loaders.specs.declared.totals.Totals.{Totals}
 use Rattle.ms_loaders.specs.declared.replies.Answer.{Answer}
-use Rattle.ms_run.specs.Own.{Said}
+use Rattle.ms_base.specs.Run.Own.{Said}
 use Rattle.ms_run.specs.Replay.{AreSaid, HasDetail, IsDetailed}
 
 -- An answer without a report, and one more of them.

@@ -14,7 +14,6 @@ mod OrderLemmas
 mod machine
 mod WorkedLemmas
 mod PhaseLemmas
-mod own
 mod AloneLemmas
 pub mod PeakLemmas
 mod DetailLemmas

@@ -26,7 +26,7 @@ use Rattle.ms_loaders.specs.Loader.{LoaderView, account_in, new_loader}
 use Rattle.ms_shared.specs.History.{Event, Logged, Chain, events_in, events_of, AreBelow}
 use Rattle.ms_shared.specs.Weaving.{IsStill, Spread, of, Works as WorksOf, Runs}
 use Rattle.ms_shared.proofs.WeaveLemmas.{weaves}
-use Rattle.ms_run.specs.Own.{Said}
+use Rattle.ms_base.specs.Run.Own.{Said}
 use Rattle.ms_run.specs.Acts.{IsGrowing, IsOpening, IsClosing, AsksOf, Makes, Act, IsAct, Works, said_of, events_by}
 use Rattle.ms_run.specs.Acts.{seen, IsSoundEvent, AreSound, IsDoneBy, IsOwnStep, IsStep}
 use Rattle.ms_run.specs.Shares.{Place}

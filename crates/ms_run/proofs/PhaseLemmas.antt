@@ -19,7 +19,7 @@ use Rattle.ms_shared.specs.History.{Event, events_of, AreBelow}
 use Rattle.ms_shared.specs.SeatView.{LockState}
 use Rattle.ms_run.specs.Acts.{events_by}
 use Rattle.ms_run.specs.Joined.{IsMadeFrom, seat_of}
-use Rattle.ms_run.specs.Own.{Said, own_said, own_of, own_in, OwnRun, ArePurged}
+use Rattle.ms_base.specs.Run.Own.{Said, own_said, own_of, own_in, OwnRun, ArePurged}
 use Rattle.ms_run.specs.Counting.{GoesOnBy, GoesOnTo}
 use Rattle.ms_run.specs.Course.{Course, on_to, passed}
 use Rattle.ms_run.specs.Peaks.{ArePeaksIfKept}

@@ -30,7 +30,7 @@ use Rattle.ms_loaders.specs.Loader.{LacksName, IsSoundView}
 use Rattle.ms_loaders.specs.System.{states_of, accounts_of, AreDistinct}
 use Rattle.ms_loaders.specs.Used.{used_by, used_at}
 use Rattle.ms_shared.specs.SeatView.{ServesBy}
-use Rattle.ms_run.specs.Own.{own_of, own_in}
+use Rattle.ms_base.specs.Run.Own.{own_of, own_in}
 use Rattle.ms_run.specs.Manned.{KeepsSeats}
 use Rattle.ms_loaders.proofs.steps.CallLemmas.{write_keeps, free_keeps}
 use Rattle.ms_loaders.proofs.steps.UnloadLemmas.{state_of}

@@ -16,7 +16,7 @@ use Rattle.ms_loaders.specs.Loader.{LoaderView}
 use Rattle.ms_loaders.specs.System.{states_of}
 use Rattle.ms_shared.specs.SeatView.{LockState, SeatState}
 use Rattle.ms_run.specs.Joined.{seat_of}
-use Rattle.ms_run.specs.Own.{Said, own_said, own_of, own_in, OwnRun}
+use Rattle.ms_base.specs.Run.Own.{Said, own_said, own_of, own_in, OwnRun}
 use Rattle.ms_run.proofs.TouchLemmas.{named_states, own_missing}
 use Rattle.ms_loaders.proofs.steps.UnloadLemmas.{state_of}
 use Rattle.std.specs.Prelude.{slice_index_or}

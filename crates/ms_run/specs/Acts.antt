@@ -27,7 +27,7 @@ use Rattle.ms_shared.specs.Weaving.{events_of as events_in_acts, said_of as said
 use Rattle.ms_shared.specs.SeatView.{SeatState}
 use Rattle.ms_base.specs.Run.Alone.{OwnReply}
 use Rattle.ms_loaders.specs.System.{states_of}
-use Rattle.ms_run.specs.Own.{Said, own_in}
+use Rattle.ms_base.specs.Run.Own.{Said, own_in}
 
 -- An event from a sound pool to a sound one, and events that are all so.
 abbrev pub IsSoundEvent : Event → Type 0

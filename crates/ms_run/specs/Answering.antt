@@ -10,7 +10,7 @@ use Rattle.ms_base.specs.Run.Alone.{OwnReply}
 use Rattle.ms_loaders.specs.Loader.{LoaderView}
 use Rattle.ms_loaders.specs.System.{states_of}
 use Rattle.ms_shared.specs.declared.lock_rule.SeatView.{SeatView}
-use Rattle.ms_run.specs.Own.{own_in}
+use Rattle.ms_base.specs.Run.Own.{own_in}
 use Rattle.ms_run.specs.Manned.{IsManned}
 
 -- The reply to a loader's step is its own, the other loaders stay, a purge is done; the seat then

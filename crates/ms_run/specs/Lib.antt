@@ -1,4 +1,3 @@
-pub mod Own
 pub mod Acts
 pub mod Course
 pub mod Peaks

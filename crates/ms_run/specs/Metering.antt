@@ -1,12 +1,12 @@
 -- How the meter's seats follow the words in use of the loaders that their workers have.
-use Rattle.std.specs.Prelude.{ℕ, ◌%◌, ◌^◌, ⊤, List}
+use Rattle.std.specs.Prelude.{ℕ, ◌%◌, ◌^◌, ⊤, List, Bool, true, false}
 use Rattle.std.specs.List.{sum_by}
 use Rattle.ms_base.specs.declared.step.Step.{Step}
 use Rattle.ms_base.specs.declared.step.Step.TheVariants.{Alloc, Calloc, Unload}
 use Rattle.ms_base.specs.State.{Machine}
 use Rattle.ms_base.specs.Totals.{over_spaces, used_words}
 use Rattle.ms_loaders.specs.Used.{used_in}
-use Rattle.ms_shared.specs.MeterRule.{MeterState, MeterSeatState}
+use Rattle.ms_shared.specs.MeterRule.{MeterState, MeterSeatState, after_step, new_seat}
 use Rattle.ms_run.specs.declared.share.Share.{Share}
 
 -- The words in use of a whole machine.
@@ -26,7 +26,12 @@ meter_of share = share.meter
 
 -- A seat of the meter that nothing was added to.
 abbrev pub unmoved : MeterState → MeterSeatState
-unmoved meter = record { id = meter.id; amount = 0 }
+unmoved meter = new_seat meter
+
+-- A seat of the meter once its worker looked at the word, where it looks: one step more.
+abbrev pub after_look : Bool → MeterSeatState → MeterSeatState
+after_look true seat = after_step seat seat.amount
+after_look false seat = seat
 
 -- The words in use of the loaders of all shares.
 abbrev pub used_over : List Share → ℕ

@@ -27,7 +27,7 @@ use Rattle.ms_loaders.specs.Sums.{sums_in}
 use Rattle.ms_base.specs.Request.{loader_of}
 use Rattle.ms_run.specs.Course.{Course, begun, on_to, passed}
 use Rattle.ms_run.specs.Peaks.{ArePeaksIfKept}
-use Rattle.ms_run.specs.Own.{Said, own_said, own_in, OwnRun, ArePurged}
+use Rattle.ms_base.specs.Run.Own.{Said, own_said, own_in, OwnRun, ArePurged}
 use Rattle.ms_run.specs.Workers.{IsByTurn}
 use Rattle.ms_run.specs.declared.fault.RunFault.{RunFault}
 use Rattle.ms_run.specs.declared.fault.RunFault.TheVariants.{Unsettled}

@@ -8,7 +8,7 @@ ghost use Rattle.ms_base.specs.Request.{loader_of};
 ghost use Rattle.ms_trace.specs.Steps.{step_of};
 ghost use Rattle.ms_loaders.specs.declared.replies.Answer.{Answer};
 ghost use Rattle.ms_run.specs.Replay.{AreSaid};
-ghost use Rattle.ms_run.specs.Own.{Said};
+ghost use Rattle.ms_base.specs.Run.Own.{Said};
 ghost use Rattle.ms_run.specs.Sink.{Puts};
 ghost use Rattle.ms_run.specs.Turn.{shares_in, place_in};
 ghost use Rattle.ms_run.specs.Shares.{AreAnswered, AreMerged, AreSteps};

@@ -12,7 +12,7 @@ ghost use Rattle.ms_loaders.specs.Used.{used_at, used_in};
 ghost use Rattle.ms_run.specs.Acts.{HasMade, Makes, Touches};
 ghost use Rattle.ms_run.specs.Answering.{IsAnswered};
 ghost use Rattle.ms_run.specs.Manned.{IsManned};
-ghost use Rattle.ms_run.specs.Own.{own_in};
+ghost use Rattle.ms_base.specs.Run.Own.{own_in};
 ghost use Rattle.ms_run.specs.Metering.{MovesNoTop};
 ghost use Rattle.ms_run.specs.Moved.{IsMoved};
 

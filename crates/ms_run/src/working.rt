@@ -7,6 +7,7 @@
 ghost use Rattle.std.specs.Prelude.{◌≡◌, IfOk, IfErr};
 ghost use Rattle.std.specs.List.{All};
 ghost use Rattle.ms_run.specs.Replay.{IsWanting};
+ghost use Rattle.ms_run.specs.Metering.{after_look};
 ghost use Rattle.ms_run.specs.Shares.{IsReadyFor, IsWorked, AllWorked};
 
 use crate::fault::RunFault;
@@ -126,7 +127,7 @@ fn work<R: Wait, G: Gate>(
 /// Reads the words in use where they are looked at: those before, and what the meter says.
 fn used_now(looks: bool, meter: &UsedMeter, seat: &mut MeterSeat, before: u64) -> u64
     requires { seat.old.id ≡ meter.now.id }
-    ensures { seat.new ≡ seat.old }
+    ensures { seat.new ≡ after_look looks seat.old }
 {
     if !looks {
         return 0;

@@ -10,7 +10,7 @@ use lib.ListN.{get_elem?}
 use Rattle.atomic_table.specs.Seated.{TableId}
 use Rattle.atomic_table.specs.Table.{Me, keeps, Allows, Splits, Joins, Final, Seen}
 use Rattle.atomic_table.proofs.Lists.{at_set, at_snoc, set_again}
-use Rattle.ms_shared.specs.MeterRule.{added, meter_view, less_part, joined, IsMetered, IdleIsEmpty, MeterSeatState}
+use Rattle.ms_shared.specs.MeterRule.{added, meter_view, stepped, less_part, joined, IsMetered, IdleIsEmpty, MeterSeatState}
 use Rattle.ms_shared.specs.MeterRule.{amounts_in}
 use Rattle.ms_shared.specs.declared.meter_rule.MeterView.{MeterView}
 use Rattle.ms_shared.proofs.TotalLemmas.{total-set, alone, mod_shift, mod_in}
@@ -33,9 +33,9 @@ idle_snoc views view new idle other w at none =
 -- A step that adds k to the word and to the seat's amount.
 pub shifts : (made slots id k : ℕ) (me : Me ℕ MeterView) → me.0.parts ≡ 1
     → Allows (IsMetered made) slots id me 0 (λ n. (n + k) % 2 ^ 64)
-    (λ found new. new ≡ (meter_view me.0.parts (added me.0.amount k), me.1))
+    (λ found new. new ≡ stepped me (added me.0.amount k))
 shifts made slots id k me one state rule wide at fits =
-    let old = me.0 in let new = meter_view old.parts (added old.amount k) in
+    let old = me.0 in let new = (stepped me (added old.amount k)).0 in
     let amounts = total-set (λ (v : MeterView). v.amount) state.views id old new at in
     let parts = total-set (λ (v : MeterView). v.parts) state.views id old new at in
     let long = rule.word in let made_is = rule.parts in (
@@ -53,32 +53,31 @@ shifts made slots id k me one state rule wide at fits =
     )
 
 -- A step that reads the word.
-pub looks : (made slots id : ℕ) (me : Me ℕ MeterView)
-    → Allows (IsMetered made) slots id me 0 (λ n. n) (λ found new. new ≡ me)
-looks made slots id me state rule wide at fits =
+pub looks : (made slots id : ℕ) (me : Me ℕ MeterView) → me.0.parts ≡ 1
+    → Allows (IsMetered made) slots id me 0 (λ n. n) (λ found new. new ≡ stepped me me.0.amount)
+looks made slots id me one state rule wide at fits =
+    let old = me.0 in let new = (stepped me old.amount).0 in
+    let amounts = total-set (λ (v : MeterView). v.amount) state.views id old new at in
+    let parts = total-set (λ (v : MeterView). v.parts) state.views id old new at in
     let long = rule.word in let made_is = rule.parts in
-    let same = set_again state.views id me.0 at in (
-      me.0,
+    let same : amounts_in state.views ≡ amounts_in (set state.views id new) = omega arith in (
+      new,
       keeps,
       tt,
-      subst (λ views. IsMetered made
-          (record { words = set state.words 0 (get_or state.words 0 0); homes = state.homes; views = views }))
-          (sym same)
-          (record {
-            sum = get_or-set_same state.words 0 _ 0 (omega arith) ∙ rule.sum;
-            word = length-set state.words 0 _
-                ∙ rule.word;
-            parts = rule.parts;
-            idle = rule.idle;
-          }),
+      record {
+        sum = get_or-set_same state.words 0 _ 0 (omega arith) ∙ rule.sum ∙ ap (λ n. n % 2 ^ 64) same;
+        word = length-set state.words 0 _ ∙ rule.word;
+        parts = omega arith;
+        idle = idle_set state.views id new (λ none. absurd (omega arith)) rule.idle;
+      },
       refl,
     )
 
 -- A part is cut off.
 pub cuts : (made id : ℕ) (view : MeterView) → 1 < view.parts
-    → Splits (IsMetered made) id view (less_part view) (meter_view 1 0)
+    → Splits (IsMetered made) id view (less_part view) (meter_view 1 0 0)
 cuts made id view some_left state rule at =
-    let left = less_part view in let right = meter_view 1 0 in let views = set state.views id left in
+    let left = less_part view in let right = meter_view 1 0 0 in let views = set state.views id left in
     let a = total-set (λ (v : MeterView). v.amount) state.views id view left at in
     let p = total-set (λ (v : MeterView). v.parts) state.views id view left at in
     let a' = sum_by_push (λ (v : MeterView). v.amount) views right in
@@ -95,9 +94,9 @@ cuts made id view some_left state rule at =
 
 -- Two seats become one.
 pub joins : (made id other : ℕ) (view another : MeterView) → 0 < view.parts
-    → Joins (IsMetered made) id view other another (joined view another) (meter_view 0 0)
+    → Joins (IsMetered made) id view other another (joined view another) (meter_view 0 0 0)
 joins made id other view another live state rule at apart at' =
-    let both = joined view another in let spent = meter_view 0 0 in let views = set state.views id both in
+    let both = joined view another in let spent = meter_view 0 0 0 in let views = set state.views id both in
     let a = total-set (λ (v : MeterView). v.amount) state.views id view both at in
     let p = total-set (λ (v : MeterView). v.parts) state.views id view both at in
     let a' = total-set (λ (v : MeterView). v.amount) views other another spent at' in
@@ -128,23 +127,22 @@ settled made id n view words slots all final at =
 
 -- One more seat with nothing, of the same meter.
 abbrev idle_seat : TableId → MeterSeatState
-idle_seat id = record { id = id; amount = 0 }
+idle_seat id = record { id = id; amount = 0; steps = 0 }
 
 pub one_more_seat : (id : TableId) (given new : List MeterSeatState) (seat : MeterSeatState) (n count : ℕ) → 1 ≤ n
-    → count ≡ n → given ≡ replicate (n - 1) (idle_seat id) → new ≡ given ++ seat ∷ [] → seat.id ≡ id → seat.amount ≡ 0
+    → count ≡ n → given ≡ replicate (n - 1) (idle_seat id) → new ≡ given ++ seat ∷ [] → seat ≡ idle_seat id
     → new ≡ replicate count (idle_seat id)
-one_more_seat id given new seat n count above all so_far is its idle =
+one_more_seat id given new seat n count above all so_far is its =
     is
     ∙ ap (λ (l : List MeterSeatState). l ++ seat ∷ []) so_far
-    ∙ ap (λ (s : MeterSeatState). replicate (n - 1) (idle_seat id) ++ s ∷ [])
-    (ap (λ (i : TableId). seat_of i seat.amount) its ∙ ap (seat_of id) idle)
+    ∙ ap (λ (s : MeterSeatState). replicate (n - 1) (idle_seat id) ++ s ∷ []) its
     ∙ replicate_more (n - 1) (idle_seat id)
     ∙ ap (λ (k : ℕ). replicate k (idle_seat id)) (omega arith)
-  where
-    seat_of : TableId → ℕ → MeterSeatState
-    seat_of id amount = record { id = id; amount = amount }
 
 -- A seat as its callers see it.
-pub meter_seat_is : (id id' : TableId) (amount amount' : ℕ) → id' ≡ id → amount' ≡ amount
-    → ◌≡◌ {A = MeterSeatState} (record { id = id'; amount = amount' }) (record { id = id; amount = amount })
-meter_seat_is id id' amount amount' same is = λ i. record { id = same i; amount = is i }
+abbrev seat_of : TableId → MeterView → MeterSeatState
+seat_of id view = record { id = id; amount = view.amount; steps = view.steps }
+
+pub meter_seat_is : (id id' : TableId) (me me' : Me ℕ MeterView) → id' ≡ id → me' ≡ me
+    → seat_of id' me'.0 ≡ seat_of id me.0
+meter_seat_is id id' me me' same is = λ i. seat_of (same i) (is i).0

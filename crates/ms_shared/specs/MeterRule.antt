@@ -16,16 +16,17 @@ added amount n = (amount + n) % 2 ^ 64
 abbrev pub taken_off : ℕ → ℕ → ℕ
 taken_off amount n = (amount + (2 ^ 64 - n)) % 2 ^ 64
 
-abbrev pub meter_view : ℕ → ℕ → MeterView
-meter_view parts amount = record { parts = parts; amount = amount }
+abbrev pub meter_view : ℕ → ℕ → ℕ → MeterView
+meter_view parts amount steps = record { parts = parts; amount = amount; steps = steps }
 
 -- What is left once a part is cut off.
 abbrev pub less_part : MeterView → MeterView
-less_part view = meter_view (view.parts - 1) view.amount
+less_part view = meter_view (view.parts - 1) view.amount view.steps
 
--- Two views in one. The sum isn't reduced, since no machine has it.
+-- Two views in one. The sums aren't reduced, since no machine has them.
 abbrev pub joined : MeterView → MeterView → MeterView
-joined view other = meter_view (view.parts + other.parts) (view.amount + other.amount)
+joined view other =
+    meter_view (view.parts + other.parts) (view.amount + other.amount) (view.steps + other.steps)
 
 -- A view with no part has no amount.
 abbrev pub IdleIsEmpty : List MeterView → Type 0
@@ -44,23 +45,36 @@ pub record IsMetered (made : ℕ) (state : State ℕ MeterView) : Type 0 where
   pub parts : parts_in state.views ≡ made
   pub idle : IdleIsEmpty state.views
 
+-- A seat after one step more on the word, which leaves it this amount.
+abbrev pub stepped : Me ℕ MeterView → ℕ → Me ℕ MeterView
+stepped old amount = (meter_view old.0.parts amount (old.0.steps + 1), old.1)
+
 -- What the steps on the word leave the seat with: its first operand more, its first operand less,
--- or what it had.
+-- or what it had. Each is one step.
 abbrev pub AddsAmount : Step ℕ → Me ℕ MeterView → ℕ → Me ℕ MeterView → Type 0
-AddsAmount step old found new = new ≡ (meter_view old.0.parts (added old.0.amount step.first), old.1)
+AddsAmount step old found new = new ≡ stepped old (added old.0.amount step.first)
 
 abbrev pub Subtracts : Step ℕ → Me ℕ MeterView → ℕ → Me ℕ MeterView → Type 0
-Subtracts step old found new = new ≡ (meter_view old.0.parts (taken_off old.0.amount step.first), old.1)
+Subtracts step old found new = new ≡ stepped old (taken_off old.0.amount step.first)
 
 abbrev pub Looks : Step ℕ → Me ℕ MeterView → ℕ → Me ℕ MeterView → Type 0
-Looks step old found new = new ≡ old
+Looks step old found new = new ≡ stepped old old.0.amount
 
 -- A meter as its callers see it: which one it is, and how many seats it was made with.
 pub record MeterState : Type 0 where
   pub id : TableId
   pub seats : ℕ
 
--- A seat: of which meter, and its amount, modulo 2^64.
+-- A seat: of which meter, its amount, modulo 2^64, and how many atomic steps it took on the word.
 pub record MeterSeatState : Type 0 where
   pub id : TableId
   pub amount : ℕ
+  pub steps : ℕ
+
+-- A seat with nothing, which took no step yet.
+abbrev pub new_seat : MeterState → MeterSeatState
+new_seat meter = record { id = meter.id; amount = 0; steps = 0 }
+
+-- A seat after one atomic step on the word, which leaves it this amount.
+abbrev pub after_step : MeterSeatState → ℕ → MeterSeatState
+after_step seat amount = record { id = seat.id; amount = amount; steps = seat.steps + 1 }

@@ -12,13 +12,16 @@ ghost use Rattle.ms_shared.specs.MeterRule.{IsMetered, AddsAmount, Subtracts, Lo
 
 use atomic_table::{Join, Play, Split, TableRule};
 
-/// What a seat of a meter knows: its parts of the right to know the sum, and its amount. No value
-/// of it is made.
+/// What a seat of a meter knows: its parts of the right to know the sum, its amount, and how many
+/// steps it took. No value of it is made.
 pub struct MeterView {
     /// How many seats it stands for.
     pub parts: u64,
     /// What was added by it less what was taken off, modulo 2^64.
     pub amount: u64,
+    /// How many steps on the word it took. Each play raises it by one, so a call that says how far
+    /// it rose says how many steps it is.
+    pub steps: u64,
 }
 
 // The rule; it is told how many seats are made.
@@ -27,7 +30,7 @@ pub struct Metered;
 impl TableRule<u8, MeterView, usize> for Metered {
     ghost holds = { IsMetered };
 
-    ghost first = { λ made. meter_view made 0 };
+    ghost first = { λ made. meter_view made 0 0 };
 }
 
 // A number is added to the word.
@@ -57,7 +60,7 @@ pub struct CutSeat;
 impl Split<MeterView> for CutSeat {
     ghost left = { less_part };
 
-    ghost right = { λ view. meter_view 1 0 };
+    ghost right = { λ view. meter_view 1 0 0 };
 }
 
 // Two seats become one.
@@ -66,5 +69,5 @@ pub struct JoinSeats;
 impl Join<MeterView> for JoinSeats {
     ghost both = { joined };
 
-    ghost spent = { meter_view 0 0 };
+    ghost spent = { meter_view 0 0 0 };
 }

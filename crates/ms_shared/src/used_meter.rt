@@ -2,13 +2,14 @@
 //!
 //! The meter is one word of memory, and a seat's amount, which contracts alone see, is what the
 //! seat added less what it took off. Kept true: the word is the sum of the amounts, modulo 2^64,
-//! between any two steps. So no add is lost, whoever else adds. Each call is one atomic step; only
+//! between any two steps. So no add is lost, whoever else adds. Each of `add`, `sub` and `now` is
+//! one atomic step, by the seat's count of its steps, so that no other seat meets half an add. Only
 //! `new` takes memory, and nothing takes a lock or waits.
 //! This project's choice; HotSpot's runningCounters.cpp has such a word.
 ghost use Rattle.std.specs.Prelude.{◌≡◌, ◌%◌, ◌^◌, ◌<◌, ◌≤◌, ◌↔◌, IsOk, IfOk, IfErr};
 ghost use Rattle.std.specs.Prelude.{vec_len, replicate, []};
 ghost use Rattle.std.specs.List.{All, sum_by};
-ghost use Rattle.ms_shared.specs.MeterRule.{added, taken_off, meter_view};
+ghost use Rattle.ms_shared.specs.MeterRule.{added, taken_off, meter_view, new_seat, after_step};
 
 use crate::meter_rule::{AddsAmount, CutSeat, JoinSeats, Looks, MeterView, Metered, Subtracts};
 use atomic_table::{Seat, Table};
@@ -63,7 +64,9 @@ impl Model for MeterSeat {
 
     ghost use Rattle.std.specs.Prelude.{◌≡◌, []};
 
-    ghost view = { λ seat. record { id = seat.seat.table_id; amount = seat.seat.me.0.amount } };
+    ghost view = { λ seat. record {
+        id = seat.seat.table_id; amount = seat.seat.me.0.amount; steps = seat.seat.me.0.steps
+    } };
 
     ghost invariant = { λ seat. (seat.seat.me.1 ≡ []) × (seat.seat.me.0.parts ≡ 1) };
 }
@@ -76,7 +79,7 @@ impl UsedMeter {
         requires few { seats ≤ 8 }
         ensures meter { IfOk result (λ made. made.0.seats ≡ seats) }
         ensures seats { IfOk result
-            (λ made. made.1.items ≡ replicate seats (record { id = made.0.id; amount = 0 })) }
+            (λ made. made.1.items ≡ replicate seats (new_seat made.0)) }
     {
         let mut given = Vec::with_capacity(alloc, seats)?;
         let (table, mut rest) = Table::of_words(alloc, &[0], &seats)?;
@@ -93,7 +96,7 @@ impl UsedMeter {
     /// memory and no lock. This project's choice.
     pub fn add(&self, seat: &mut MeterSeat, words: u64)
         requires { seat.old.id ≡ self.now.id }
-        ensures { seat.new ≡ record seat.old { amount = added seat.old.amount words } }
+        ensures { seat.new ≡ after_step seat.old (added seat.old.amount words) }
     {
         self.table
             .shared
@@ -104,7 +107,7 @@ impl UsedMeter {
     /// no memory and no lock. This project's choice.
     pub fn sub(&self, seat: &mut MeterSeat, words: u64)
         requires { seat.old.id ≡ self.now.id }
-        ensures { seat.new ≡ record seat.old { amount = taken_off seat.old.amount words } }
+        ensures { seat.new ≡ after_step seat.old (taken_off seat.old.amount words) }
     {
         self.table
             .shared
@@ -116,7 +119,7 @@ impl UsedMeter {
     /// project's choice.
     pub fn now(&self, seat: &mut MeterSeat) -> u64
         requires { seat.old.id ≡ self.now.id }
-        ensures unchanged { seat.new ≡ seat.old }
+        ensures unchanged { seat.new ≡ after_step seat.old seat.old.amount }
     {
         self.table.shared.load::<Looks>(&mut seat.seat, 0)
     }
@@ -174,7 +177,7 @@ impl MeterSeat {
     /// Gives the seat of the table out.
     fn into_table_seat(self) -> Seat<u8, MeterView>
         ensures own { result.table_id ≡ self.id }
-        ensures view { result.me ≡ (meter_view 1 self.amount, []) }
+        ensures view { result.me ≡ (meter_view 1 self.amount self.steps, []) }
     {
         let MeterSeat { seat } = self;
         seat

@@ -1,13 +1,13 @@
 -- Calls of open, close and purge, whatever they answer: all accounts but a closed one are served
 -- still, and no other owner's chunks change.
 use Rattle.std.proofs.Common.{◌≡◌, ◌≢◌, ◌<◌, ◌+◌, ℕ, [], refl, sym, ap, ◌∙◌, subst, arith}
-use Rattle.std.specs.Prelude.{Result, Ok, Err, IfOk, MatchResult}
+use Rattle.std.specs.Prelude.{Result, Ok, Err, IfOk, IfErr, MatchResult}
 use Rattle.ms_base.specs.declared.kind.Space.{Space}
 use Rattle.ms_base.specs.declared.kind.Space.TheVariants.{NonClass, Class}
 use Rattle.ms_base.specs.declared.refusal.Refusal.{Refusal}
 use Rattle.ms_pool.specs.Account.{AccountState}
 use Rattle.ms_pool.specs.Ledger.{Ledger, IsSoundLedger, Serves, chunks_of, opened_in, with_opened}
-use Rattle.ms_pool.specs.Source.{ServesBoth}
+use Rattle.ms_pool.specs.Source.{ServesBoth, IsOpenRefusal}
 use Rattle.ms_pool.specs.Calls.{Opened, OpenedBoth, Closed, ClosedBoth, Purged, new_account}
 use Rattle.ms_pool.proofs.ledger.LedgerCloseLemmas.{closed_is_sound, closed_has_nothing, closed_serves_others}
 use Rattle.ms_pool.proofs.ledger.LedgerCloseLemmas.{closed_counts, closed_counts_elsewhere, closed_keeps_others}
@@ -117,6 +117,11 @@ both_opened_counts old (Ok accounts) new opened space =
     one_more_each NonClass = refl
     one_more_each Class = refl
 both_opened_counts old (Err refusal) new refused space = ap (λ (l : Ledger). opened_in l space) refused.2
+
+pub both_opened_refusal : (old : Ledger) (result : Result (AccountState × AccountState) Refusal) (new : Ledger)
+    → OpenedBoth old result new → IfErr result IsOpenRefusal
+both_opened_refusal old (Ok accounts) new opened = tt
+both_opened_refusal old (Err refusal) new refused = subst IsOpenRefusal (sym refused.0) tt
 
 pub both_opened_limits : (old : Ledger) (result : Result (AccountState × AccountState) Refusal) (new : Ledger)
     → OpenedBoth old result new → new.limits ≡ old.limits

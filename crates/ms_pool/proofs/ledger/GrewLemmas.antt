@@ -1,12 +1,13 @@
 -- A call of grow, whatever it answers: all accounts are served still, and nothing changes but the
 -- chunks of the call's account.
 use Rattle.std.proofs.Common.{◌≡◌, ℕ, Bool, Some, List, refl, sym, ap, ◌∙◌, subst}
-use Rattle.std.specs.Prelude.{Result, Ok, Err, IfOk, OnErr, slice_get, slice_set}
+use Rattle.std.specs.Prelude.{Result, Ok, Err, IfOk, IfErr, OnErr, slice_get, slice_set}
 use Rattle.ms_base.specs.declared.span.Chunk.{Chunk}
 use Rattle.ms_base.specs.declared.span.Span.{Span}
 use Rattle.ms_base.specs.declared.refusal.Refusal.{Refusal}
 use Rattle.ms_base.specs.declared.refusal.Refusal.TheVariants.{CommitLimit, NoRoom}
 use Rattle.ms_pool.specs.Account.{AccountState, AreChunks}
+use Rattle.ms_pool.specs.Source.{IsGrowRefusal}
 use Rattle.ms_pool.specs.Lending.{Grows, reaching}
 use Rattle.ms_pool.specs.Ledger.{Ledger, IsSoundLedger, Serves}
 use Rattle.ms_pool.specs.Calls.{GrewFrom, Grew}
@@ -23,6 +24,21 @@ grow_refused_raises old account chunk total may_enlarge (CommitLimit committed l
 grow_refused_raises old account chunk total may_enlarge (NoRoom level) new refused =
     record { tallies = _; is = refused.1 }
 grow_refused_raises old account chunk total may_enlarge _ new refused = absurd refused
+
+-- What a refusal of it is.
+refusal_after : (old : Ledger) (account : AccountState) (chunk : Chunk) (total : ℕ) (may_enlarge : Bool)
+    (answer : Result Span Refusal) (new : Ledger)
+    → GrewFrom old account chunk total may_enlarge answer new → IfErr answer IsGrowRefusal
+refusal_after old account chunk total may_enlarge (Ok span) new grew = tt
+refusal_after old account chunk total may_enlarge (Err (CommitLimit committed limit need)) new grew = tt
+refusal_after old account chunk total may_enlarge (Err (NoRoom level)) new grew = tt
+refusal_after old account chunk total may_enlarge (Err _) new grew = absurd grew
+
+pub grow_refusal : (old : Ledger) (account : AccountState) (start total : ℕ) (may_enlarge : Bool)
+    (answer : Result Span Refusal) (new : Ledger)
+    → Grew old account start total may_enlarge answer new → IfErr answer IsGrowRefusal
+grow_refusal old account start total may_enlarge answer new grew =
+    refusal_after old account grew.chunk total may_enlarge answer new grew.after
 
 -- What a call leaves, by its answer for the chunk that it was asked for.
 keeps_after : (old : Ledger) (account : AccountState) (place : ℕ) (chunk : Chunk) (total : ℕ) (may_enlarge : Bool)

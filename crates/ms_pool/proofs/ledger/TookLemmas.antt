@@ -2,11 +2,12 @@
 -- chunks of the call's account.
 use Rattle.ms_base.specs.Level.{highest_level}
 use Rattle.std.proofs.Common.{◌≡◌, ◌≤◌, ℕ, refl, sym, ap, ◌∙◌, subst}
-use Rattle.std.specs.Prelude.{Result, Ok, Err, IfOk, OnErr}
+use Rattle.std.specs.Prelude.{Result, Ok, Err, IfOk, IfErr, OnErr}
 use Rattle.ms_base.specs.declared.span.Span.{Span}
 use Rattle.ms_base.specs.declared.refusal.Refusal.{Refusal}
 use Rattle.ms_base.specs.declared.refusal.Refusal.TheVariants.{CommitLimit, ReserveLimit, OutOfMemory}
 use Rattle.ms_pool.specs.Account.{AccountState, AreChunks}
+use Rattle.ms_pool.specs.Source.{IsTakeRefusal}
 use Rattle.ms_pool.specs.Lending.{Adds, MayTake, chunk_at, span_of}
 use Rattle.ms_pool.specs.Ledger.{Ledger, IsSoundLedger, Serves}
 use Rattle.ms_pool.specs.Calls.{Lends, TakeRefused, Took}
@@ -37,6 +38,16 @@ took_keeps old account wanted most words (Ok span) new lends =
     })
 took_keeps old account wanted most words (Err refusal) new refused =
     keeps_where_tallied account.owner old new (take_refused_raises old account wanted most words refusal new refused)
+
+-- What a refusal of it is.
+pub take_refusal : (old : Ledger) (account : AccountState) (wanted most words : ℕ) (result : Result Span Refusal)
+    (new : Ledger)
+    → Took old account wanted most words result new → IfErr result IsTakeRefusal
+take_refusal old account wanted most words (Ok span) new took = tt
+take_refusal old account wanted most words (Err (CommitLimit committed limit need)) new took = tt
+take_refusal old account wanted most words (Err (ReserveLimit nodes limit)) new took = tt
+take_refusal old account wanted most words (Err OutOfMemory) new took = tt
+take_refusal old account wanted most words (Err _) new took = absurd took
 
 -- What a request may ask.
 pub record MayAsk (wanted most words : ℕ) : Type 0 where

@@ -18,7 +18,7 @@ use Rattle.ms_loaders.specs.Loader.{LoaderView, IsSoundView, AllocatesBlock}
 use Rattle.ms_loaders.specs.System.{states_of}
 use Rattle.ms_shared.specs.SeatView.{SeatState}
 use Rattle.ms_shared.specs.LockCalls.{TookOver, GrewOver}
-use Rattle.ms_run.specs.Own.{own_in}
+use Rattle.ms_base.specs.Run.Own.{own_in}
 use Rattle.ms_run.proofs.TouchLemmas.{own_missing, own_found}
 use Rattle.ms_run.proofs.grants.GrantToldLemmas.{IsRefusedOwn, is_answered, own_part}
 use Rattle.ms_run.proofs.grants.GrantClearLemmas.{is_added}

@@ -22,7 +22,7 @@ use Rattle.ms_loaders.proofs.steps.ServedLemmas.{length_changed}
 use Rattle.ms_loaders.proofs.steps.StepLemmas.{has_loader, lacks_loader}
 use Rattle.ms_loaders.proofs.steps.CallLemmas.{read_is_served, word_is_refused, free_is_refused, together_written}
 use Rattle.ms_loaders.proofs.steps.CallLemmas.{is_written, together_freed, is_freed}
-use Rattle.ms_run.specs.Own.{own_in}
+use Rattle.ms_base.specs.Run.Own.{own_in}
 use Rattle.ms_run.specs.Acts.{ChangesLoader, IsOwnStep}
 use Rattle.ms_run.proofs.machine.FilledLemmas.{filled, AreWhole}
 use Rattle.ms_run.proofs.machine.OwnViewLemmas.{own_view, own_view_is, LacksWordIn, LacksNameIn, write_lacks}

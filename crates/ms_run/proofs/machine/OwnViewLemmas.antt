@@ -12,7 +12,7 @@ use Rattle.ms_loaders.specs.Loader.{LoaderView, HasWord, LacksWord, LacksName}
 use Rattle.ms_loaders.specs.System.{states_of}
 use Rattle.ms_loaders.proofs.MappedLemmas.{named-mapped}
 use Rattle.ms_loaders.proofs.steps.UnloadLemmas.{state_of}
-use Rattle.ms_run.specs.Own.{own_of, own_in}
+use Rattle.ms_base.specs.Run.Own.{own_of, own_in}
 
 -- What a loader's own requests can know of it.
 abbrev pub own_view : Option LoaderView → Option OwnLoader

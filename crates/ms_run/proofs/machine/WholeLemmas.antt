@@ -24,7 +24,7 @@ use Rattle.ms_loaders.proofs.steps.CloseLemmas.{served_with}
 use Rattle.ms_loaders.proofs.MappedLemmas.{named-mapped, rises-mapped}
 use Rattle.ms_loaders.proofs.events.OpenCallLemmas.{new_is_sound}
 use Rattle.ms_shared.specs.Weaving.{where_so, without_numbers, of, Steps, Runs}
-use Rattle.ms_run.specs.Own.{Said}
+use Rattle.ms_base.specs.Run.Own.{Said}
 use Rattle.ms_run.specs.Acts.{seen, IsStep}
 use Rattle.ms_run.specs.Shares.{Place, AreAt, AreWithin}
 use Rattle.ms_run.specs.Replay.{IsOneRun}

@@ -24,7 +24,7 @@ use Rattle.ms_loaders.proofs.sums.UsedLemmas.{used_fits}
 use Rattle.ms_run.specs.declared.alone.Metered.{Metered}
 use Rattle.ms_run.specs.Counting.{IsCounted, used_around}
 use Rattle.ms_run.specs.Metering.{used_words_of}
-use Rattle.ms_run.proofs.own.OwnStepLemmas.{refused_leaves, served_others}
+use Rattle.ms_base.proofs.own.OwnStepLemmas.{refused_leaves, served_others}
 use Rattle.ms_run.proofs.TouchLemmas.{freed_used}
 use Rattle.ms_run.proofs.metered.UseLemmas.{amounts_moved}
 

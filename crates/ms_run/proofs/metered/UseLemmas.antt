@@ -21,7 +21,7 @@ use Rattle.ms_base.proofs.events.SeenEntryLemmas.{named_without_same, same_entri
 use Rattle.ms_loaders.specs.Loader.{LoaderView}
 use Rattle.ms_loaders.specs.System.{states_of}
 use Rattle.ms_loaders.specs.Used.{used_at, used_in}
-use Rattle.ms_run.specs.Own.{own_of, own_in}
+use Rattle.ms_base.specs.Run.Own.{own_of, own_in}
 use Rattle.ms_run.proofs.TouchLemmas.{named_states}
 use Rattle.ms_loaders.proofs.steps.UnloadLemmas.{state_of}
 

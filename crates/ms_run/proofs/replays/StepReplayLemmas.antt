@@ -24,14 +24,14 @@ use Rattle.ms_trace.specs.declared.trace.Line.{Line}
 use Rattle.ms_trace.specs.Steps.{step_of}
 use Rattle.ms_loaders.specs.declared.totals.Totals.{Totals}
 use Rattle.ms_loaders.specs.declared.replies.Answer.{Answer}
-use Rattle.ms_run.specs.Own.{Said, own_said, own_in, OwnRun}
+use Rattle.ms_base.specs.Run.Own.{Said, own_said, own_in, OwnRun}
 use Rattle.ms_run.specs.Course.{Course, on_to, passed}
 use Rattle.ms_run.specs.Replay.{Advances, Reports, Answers, IsPhase, Replays}
 use Rattle.ms_run.specs.Replay.{runs, ends}
 use Rattle.ms_run.specs.Workers.{IsByTurn}
-use Rattle.ms_run.proofs.own.OwnRefusedLemmas.{IsOwn}
-use Rattle.ms_run.proofs.own.OwnStepLemmas.{transition_own, transition_others, transition_limits, transition_good}
-use Rattle.ms_run.proofs.own.OwnStepLemmas.{purge_done}
+use Rattle.ms_base.proofs.own.OwnRefusedLemmas.{IsOwn}
+use Rattle.ms_base.proofs.own.OwnStepLemmas.{transition_own, transition_others, transition_limits, transition_good}
+use Rattle.ms_base.proofs.own.OwnStepLemmas.{purge_done}
 
 -- Where a step is asked there is no report.
 none_reported : (command : Command) (asked : Step) (course : Course) (report : Option (Box Totals Global))

@@ -12,7 +12,7 @@ use Rattle.ms_trace.specs.declared.trace.Line.{Line}
 use Rattle.ms_loaders.specs.declared.replies.Answer.{Answer}
 use Rattle.ms_run.specs.declared.share.Task.{Task}
 use Rattle.ms_run.specs.declared.share.Share.{Share}
-use Rattle.ms_run.specs.Own.{Said}
+use Rattle.ms_base.specs.Run.Own.{Said}
 use Rattle.ms_run.specs.Replay.{AreSaid}
 use Rattle.ms_run.specs.Shares.{Place, AreWithin, AreMerged, names_in, name_with, placed_by, place_for, task_of}
 use Rattle.ms_run.specs.Shares.{tasks_of, tasks_at}

@@ -17,7 +17,7 @@ use Rattle.ms_base.specs.Request.{loader_of, is_name}
 use Rattle.ms_loaders.specs.Loader.{LoaderView}
 use Rattle.ms_loaders.specs.System.{states_of}
 use Rattle.ms_loaders.specs.Used.{used_in}
-use Rattle.ms_run.proofs.metered.MeterMoveLemmas.{moved_none, moved_then}
+use Rattle.ms_run.proofs.metered.MeterMoveLemmas.{moved_looked, moved_none, moved_then}
 use Rattle.ms_run.proofs.TouchLemmas.{same_own}
 use Rattle.ms_shared.specs.MeterRule.{MeterSeatState}
 use Rattle.ms_shared.specs.SeatView.{SeatState}
@@ -25,8 +25,9 @@ use Rattle.ms_run.specs.Acts.{HasMade, Makes, Touches, HasActed}
 use Rattle.ms_run.proofs.ActLemmas.{acted_none, acted_more}
 use Rattle.ms_run.specs.Answering.{IsAnswered}
 use Rattle.ms_run.specs.Manned.{IsManned}
+use Rattle.ms_run.specs.Metering.{after_look}
 use Rattle.ms_run.specs.Moved.{IsMoved}
-use Rattle.ms_run.specs.Own.{Said, own_said, own_in, OwnRun, ArePurged}
+use Rattle.ms_base.specs.Run.Own.{Said, own_said, own_in, OwnRun, ArePurged}
 use Rattle.ms_run.specs.Shares.{said_in, IsWorked}
 use Rattle.ms_run.specs.declared.share.Task.{Task}
 use Rattle.ms_run.specs.declared.share.Share.{Share}
@@ -161,17 +162,18 @@ work_begins share pool tasks manned room none seat count = record {
 
 pub work_goes_on : (share : Share) (pool new_pool : SeatState) (counted mid_counted new_counted : MeterSeatState)
     (loaders new_loaders : List (ℕ × LoaderView)) (tasks : List Task) (index : ℕ)
-    (replies new_replies : Vec Reply Global) (d : Task) (reply : Reply)
+    (replies new_replies : Vec Reply Global) (d : Task) (reply : Reply) (looks : Bool)
     → IsWorkedTo share pool counted loaders tasks index replies → index < length tasks → new_pool.id ≡ pool.id
     → IsAnswered loaders (get_or tasks index d).step reply new_pool.knows new_loaders
     → HasMade pool new_pool (Makes loaders (get_or tasks index d).step reply new_loaders)
     → Touches loaders (get_or tasks index d).step reply new_loaders
-    → IsMoved counted (used_in loaders) mid_counted (used_in new_loaders) → new_counted ≡ mid_counted
+    → IsMoved counted (used_in loaders) mid_counted (used_in new_loaders)
+    → new_counted ≡ after_look looks mid_counted
     → new_replies.items ≡ replies.items ++ reply ∷ [] → vec_len new_replies ≡ vec_len replies + 1
     → vec_capacity new_replies ≡ vec_capacity replies
     → IsWorkedTo share new_pool new_counted new_loaders tasks (index + 1) new_replies
 work_goes_on share pool new_pool counted mid_counted new_counted loaders new_loaders tasks index replies new_replies d
-    reply its within id answered made touches moved looked items count capacity = record {
+    reply looks its within id answered made touches moved looked items count capacity = record {
       manned = answered.manned;
       id = id ∙ its.id;
       count = let before = its.count in omega arith;
@@ -187,7 +189,8 @@ work_goes_on share pool new_pool counted mid_counted new_counted loaders new_loa
           (record { own = answered.own; others = answered.others; touches = touches }));
       moved = moved_then share.meter counted new_counted (used_in share.loaders) (used_in loaders)
           (used_in new_loaders) its.moved
-          (subst (λ (s : MeterSeatState). IsMoved counted (used_in loaders) s (used_in new_loaders)) (sym looked) moved);
+          (subst (λ (s : MeterSeatState). IsMoved counted (used_in loaders) s (used_in new_loaders)) (sym looked)
+          (moved_looked counted mid_counted (used_in loaders) (used_in new_loaders) looks moved));
     }
   where
     at_it : length replies.items ≡ index

@@ -15,7 +15,7 @@ pub loop-task-preserved : goal.loop-task-preserved
 loop-task-preserved g c = let answered = c.answer_metered-reply in let pushed = c.push_reserved.ensures in
     work_goes_on c.args.share c.loop-task.pool answered.new.pool c.loop-task.counted answered.new.seat c.used_now-used.new.seat
     c.loop-task.loaders answered.new.loaders c.deref-task-items.result.now
-    c.loop-task.task-index c.loop-task.replies c.push_reserved.new.self _ answered.result c.loop-task.invariant
+    c.loop-task.task-index c.loop-task.replies c.push_reserved.new.self _ answered.result _ c.loop-task.invariant
     c.loop-task-test.true answered.ensures.lock answered.ensures.answered answered.ensures.made
     answered.ensures.touches answered.ensures.moved c.used_now-used.ensures pushed.items pushed.len pushed.capacity
 

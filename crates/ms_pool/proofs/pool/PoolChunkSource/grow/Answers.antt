@@ -1,4 +1,4 @@
-use Rattle.ms_pool.proofs.ledger.GrewLemmas.{grew_keeps, grew_serves}
+use Rattle.ms_pool.proofs.ledger.GrewLemmas.{grew_keeps, grew_serves, grow_refusal}
 use Rattle.ms_pool.proofs.ledger.KeepsLemmas.{keeps_rest}
 use Rattle.ms_pool.proofs.pool.PoolChunkSource.grow.Goals as goal
 
@@ -15,3 +15,8 @@ returns-clause-rest c =
     (grew_keeps c.args.self.now c.args.account.now c.args.start c.args.total c.args.may_enlarge c.grow.result
     c.grow.new.self
     c.grow.ensures.before c.requires.served c.grow.ensures.held c.grow.ensures.grew)
+
+pub returns-clause-refused : goal.returns-clause-refused
+returns-clause-refused c =
+    grow_refusal c.args.self.now c.args.account.now c.args.start c.args.total c.args.may_enlarge c.grow.result
+    c.grow.new.self c.grow.ensures.grew

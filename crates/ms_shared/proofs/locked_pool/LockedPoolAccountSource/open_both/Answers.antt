@@ -2,7 +2,7 @@ use Rattle.std.proofs.Common.{◌∙◌}
 use Rattle.ms_shared.proofs.LockCallLemmas.{moves_at, is_call, over_lock, limits_stay, open_both_raises}
 use Rattle.ms_shared.proofs.MovesLemmas.{open_both_moves}
 use Rattle.ms_shared.proofs.LockOpenLemmas.{both_serve, open_both_others, open_both_counts, both_new_are}
-use Rattle.ms_pool.proofs.ledger.ClosedLemmas.{both_opened_are_empty}
+use Rattle.ms_pool.proofs.ledger.ClosedLemmas.{both_opened_are_empty, both_opened_refusal}
 use Rattle.ms_shared.proofs.locked_pool.LockedPoolAccountSource.open_both.Goals as goal
 
 pub let_go-requires-clause-moves : goal.let_go-requires-clause-moves
@@ -24,6 +24,7 @@ returns g c =
       others = open_both_others _ _ _ _ call result opened;
       counted = open_both_counts _ _ _ _ call result opened;
       limits = limits_stay _ _ _ _ call;
+      refused = both_opened_refusal _ result _ opened;
       opened = record {
         event = over_lock _ _ _ _ _ call opened;
         new_are = both_new_are _ result _ opened;

@@ -7,7 +7,7 @@ use Rattle.ms_shared.proofs.LockCallLemmas.{moves_at, is_call, on_ok, over_lock,
 use Rattle.ms_shared.proofs.LockCallLemmas.{leaves_rest, grow_raises, grew_owner}
 use Rattle.ms_shared.proofs.MovesLemmas.{kept_moves, grew_tallies}
 use Rattle.ms_shared.proofs.TellsLemmas.{grow_tells}
-use Rattle.ms_pool.proofs.ledger.GrewLemmas.{grew_keeps, grew_serves}
+use Rattle.ms_pool.proofs.ledger.GrewLemmas.{grew_keeps, grew_serves, grow_refusal}
 use Rattle.ms_shared.proofs.locked_pool.LockedPoolChunkSource.grow.Goals as goal
 
 pub grow-answer-requires-clause-served : goal.grow-answer-requires-clause-served
@@ -45,6 +45,7 @@ returns g c =
           (λ span. Grows l.policy c.args.start c.args.total c.args.may_enlarge c.args.account.now span
           c.grow-answer.new.account)) call.known.limits e.grown;
       unchanged = e.unchanged;
+      refused = grow_refusal _ _ _ _ _ result _ e.grew;
       holds = on_ok result _ e.holds;
       grew = record {
         event = over_lock _ _ _ _ _ call e.grew;

@@ -7,7 +7,7 @@ use Rattle.ms_shared.proofs.LockCallLemmas.{moves_at, is_call, on_ok, over_lock,
 use Rattle.ms_shared.proofs.LockCallLemmas.{leaves_rest, take_raises, took_owner}
 use Rattle.ms_shared.proofs.TellsLemmas.{take_tells}
 use Rattle.ms_shared.proofs.MovesLemmas.{kept_moves, take_tallies}
-use Rattle.ms_pool.proofs.ledger.TookLemmas.{MayAsk, took_keeps, took_serves}
+use Rattle.ms_pool.proofs.ledger.TookLemmas.{MayAsk, take_refusal, took_keeps, took_serves}
 use Rattle.ms_shared.proofs.locked_pool.LockedPoolChunkSource.take.Goals as goal
 
 pub take-answer-requires-clause-served : goal.take-answer-requires-clause-served
@@ -45,6 +45,7 @@ returns g c =
           (λ span. Adds l.policy c.args.wanted c.args.most c.args.words c.args.account.now span
           c.take-answer.new.account)) call.known.limits e.added;
       unchanged = e.unchanged;
+      refused = take_refusal _ _ _ _ _ result _ e.took;
       holds = on_ok result _ e.holds;
       took = record {
         event = over_lock _ _ _ _ _ call e.took;

@@ -1,7 +1,5 @@
-use Rattle.std.proofs.Common.{rules, ℕ, ap, ◌∙◌}
-use Rattle.atomic_table.specs.Table.{Me}
-use Rattle.ms_shared.specs.MeterRule.{MeterSeatState, taken_off}
-use Rattle.ms_shared.specs.declared.meter_rule.MeterView.{MeterView}
+use Rattle.std.proofs.Common.{rules, ap, ◌∙◌}
+use Rattle.ms_shared.specs.MeterRule.{MeterSeatState, taken_off, after_step}
 use Rattle.ms_shared.proofs.MeterLemmas.{shifts, meter_seat_is}
 use Rattle.ms_shared.proofs.used_meter.UsedMeter.sub.Goals as goal
 
@@ -11,5 +9,5 @@ fetch_sub-requires c = (search rules, search rules, shifts _ _ _ _ _ c.seat.inva
 pub returns : goal.returns
 returns c =
     let e = c.fetch_sub.ensures in
-    meter_seat_is _ _ _ _ e.0 (ap (λ (me : Me ℕ MeterView). me.0.amount) e.2)
-    ∙ ap (λ (seat : MeterSeatState). record seat { amount = taken_off seat.amount c.args.words }) c.seat.view_is
+    meter_seat_is _ _ _ _ e.0 e.2
+    ∙ ap (λ (seat : MeterSeatState). after_step seat (taken_off seat.amount c.args.words)) c.seat.view_is

@@ -17,9 +17,9 @@ use Rattle.ms_base.specs.Transition.{ServesStep}
 use Rattle.ms_base.proofs.entries.LookupLemmas.{named_changed_other}
 use Rattle.ms_base.proofs.entries.LookupLemmas.{named_new_other, named_without_other}
 use Rattle.ms_base.proofs.machine.GoodLemmas.{good_with_numbers_used}
-use Rattle.ms_run.specs.Own.{own_of, own_in}
-use Rattle.ms_run.proofs.own.OwnRefusedLemmas.{AnswersOwn, IsOwn, refused_own}
-use Rattle.ms_run.proofs.own.OwnServedLemmas.{served_own}
+use Rattle.ms_base.specs.Run.Own.{own_of, own_in}
+use Rattle.ms_base.proofs.own.OwnRefusedLemmas.{AnswersOwn, IsOwn, refused_own}
+use Rattle.ms_base.proofs.own.OwnServedLemmas.{served_own}
 
 -- A refusal changes no loader.
 pub refused_leaves : (old new : Machine) (step : Step) (refusal : Refusal) → Leaves old step refusal new

@@ -19,7 +19,7 @@ use Rattle.ms_base.specs.Request.{alloc_in, loader_of}
 use Rattle.ms_base.specs.State.{LoaderState, Machine}
 use Rattle.ms_base.specs.Transition.{HasLoader, LacksBlock, Cause, NewCause, AllocCause, BlockCause, WordCause}
 use Rattle.ms_base.specs.Run.Alone.{OwnLoader, OwnReply, AnswersAlloc, CanAlloc, IsAllocWant}
-use Rattle.ms_run.specs.Own.{own_of, own_in}
+use Rattle.ms_base.specs.Run.Own.{own_of, own_in}
 
 -- The reply to a request, by what is known of its loader before and after.
 abbrev pub IsOwn : Option OwnLoader → Step → Reply → Option OwnLoader → Type 0

@@ -30,8 +30,8 @@ use Rattle.ms_base.proofs.entries.LookupLemmas.{named_new_other}
 use Rattle.ms_base.proofs.events.SeenEntryLemmas.{all_values, named_without_same}
 use Rattle.ms_base.proofs.machine.GoodLemmas.{loader_is_sound}
 use Rattle.ms_base.proofs.machine.BlockSpaceLemmas.{blocks_are_apart}
-use Rattle.ms_run.specs.Own.{own_of, own_in}
-use Rattle.ms_run.proofs.own.OwnRefusedLemmas.{AnswersOwn, IsOwn, at_name, known, own_as, alloc_told}
+use Rattle.ms_base.specs.Run.Own.{own_of, own_in}
+use Rattle.ms_base.proofs.own.OwnRefusedLemmas.{AnswersOwn, IsOwn, at_name, known, own_as, alloc_told}
 
 -- A run that meets none of the blocks.
 clear_of_all : (run : ℕ × ℕ) (blocks : List LiveBlock)

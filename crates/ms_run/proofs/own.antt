@@ -1,4 +1,0 @@
--- What a step of the machine answers the loader that it names, by its own lines.
-pub mod OwnRefusedLemmas
-pub mod OwnServedLemmas
-pub mod OwnStepLemmas
