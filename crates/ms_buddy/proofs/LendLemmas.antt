@@ -1,4 +1,4 @@
--- What is kept true once a part was lent. For `SplitTree::carve`.
+-- What is kept true once a part was lent. For `PartTable::carve`.
 use Rattle.std.proofs.Common.{◌≡◌, ◌<◌, ◌≤◌, ℕ, ◌+◌, ◌/◌, ◌%◌, true, false, List, [], ◌∷◌, Option}
 use Rattle.std.proofs.Common.{Some, length, refl, sym, ap, subst, ◌∙◌, inl, inr, arith}
 use Rattle.std.specs.Prelude.{Result, Ok, Err, OnOk, OnErr, slice_set}

@@ -12,8 +12,8 @@ use Rattle.ms_base.proofs.free.HalvesLemmas.{size_falls}
 use Rattle.ms_buddy.specs.declared.places.Lending.{Lending}
 use Rattle.ms_buddy.specs.Counts.{IsParted, buddy_of, holder_of, number_of}
 use Rattle.ms_buddy.specs.FreeBits.{IsKept, bit_of}
-use Rattle.ms_buddy.specs.declared.places.Leaf.{Leaf}
-use Rattle.ms_buddy.specs.declared.places.Leaf.TheVariants.{Free as FreeLeaf, Lent as LentTo}
+use Rattle.ms_buddy.specs.declared.leaf.Leaf.{Leaf}
+use Rattle.ms_buddy.specs.declared.leaf.Leaf.TheVariants.{Free as FreeLeaf, Lent as LentTo}
 use Rattle.ms_buddy.specs.Leaves.{AreInOrder, IsLeafAt, LendsAt, LentLeaf, can_enlarge, covers, is_lent, span_at}
 use Rattle.ms_buddy.specs.Leaves.{without_leaf}
 use Rattle.ms_buddy.specs.Places.{IsFront, lending_at, lent_from}

@@ -7,6 +7,7 @@ pub mod PlaceLemmas
 pub mod searches
 pub mod KeptTreeLemmas
 pub mod bits
+pub mod boxes
 pub mod counts
 pub mod CallLemmas
 pub mod LentPartLemmas

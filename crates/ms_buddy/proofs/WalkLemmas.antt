@@ -145,6 +145,14 @@ none_covers_below offset level start lower tree h =
     (λ part lies. covers_below offset part start (start + size_of level) h lies) (free_in level start lower)
     (free_lies_in level start lower tree)
 
+-- Nor does a lent one.
+pub none_lent_covers_below : (offset level start : ℕ) (lower : Node) → IsTree level lower
+    → start + size_of level ≤ offset → NonePass (λ leaf. covers offset (span_of leaf)) (lent_in level start lower)
+none_lent_covers_below offset level start lower tree h =
+    all_weaker (LeafIn start (start + size_of level)) (λ leaf. covers offset (span_of leaf) ≡ false)
+    (λ leaf lies. covers_below offset (span_of leaf) start (start + size_of level) h lies) (lent_in level start lower)
+    (lent_lies_in level start lower tree)
+
 -- A part is none of the free leaves of a node past its start or below it.
 pub none_free_above : (part : Span) (level middle : ℕ) (upper : Node) → IsTree level upper
     → part.start < middle → NonePass (is_same part) (free_in level middle upper)

@@ -9,8 +9,8 @@ use Rattle.ms_base.specs.declared.span.Chunk.{Chunk}
 use Rattle.ms_base.specs.declared.span.Span.{Span}
 use Rattle.ms_base.specs.declared.refusal.Refusal.{Refusal}
 use Rattle.ms_base.specs.declared.refusal.Refusal.TheVariants.{NoRoom, OutOfMemory}
-use Rattle.ms_buddy.specs.declared.places.Leaf.{Leaf}
-use Rattle.ms_buddy.specs.declared.places.Leaf.TheVariants.{Free, Lent}
+use Rattle.ms_buddy.specs.declared.leaf.Leaf.{Leaf}
+use Rattle.ms_buddy.specs.declared.leaf.Leaf.TheVariants.{Free, Lent}
 use Rattle.ms_base.specs.Interval.{lies_in}
 use Rattle.ms_base.specs.Level.{root_words, size_of, highest_level}
 use Rattle.ms_base.specs.Part.{IsPart, is_leader, buddy_start}

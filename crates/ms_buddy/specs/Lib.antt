@@ -1,5 +1,8 @@
 pub mod Leaves
 pub mod Tree
+pub mod Boxes
+pub mod Walk
+pub mod Walks
 pub mod Places
 pub mod Laws
 pub mod Counts

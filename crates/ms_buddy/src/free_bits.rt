@@ -17,6 +17,7 @@ ghost use Rattle.ms_buddy.specs.Counts.{beside, buddy_of, holder_of, number_of};
 ghost use Rattle.ms_buddy.specs.FreeBits.{IsFilled, IsLowestBit, IsMoved, IsNextSet, MayJoin, MayPart, bit_of};
 ghost use Rattle.ms_buddy.specs.Leaves.{span_at};
 
+use crate::parts::words_of;
 use ms_base::ROOT_WORDS;
 
 /// How many bits a word has.
@@ -243,16 +244,6 @@ pub(crate) fn start_of_holder(level: u8, at: u64) -> u64
     ensures in_root { result + size_of level ≤ ROOT_WORDS }
 {
     at - at % words_of(level)
-}
-
-/// Tells the words of a part of a level.
-pub(crate) fn words_of(level: u8) -> u64
-    requires { level ≤ 12 }
-    ensures size { result ≡ size_of level }
-    ensures some { 0 < result }
-    ensures small { result ≤ ROOT_WORDS }
-{
-    ROOT_WORDS >> level
 }
 
 /// Tells the first number of the parts of a level that start at an offset or past it.

@@ -7,13 +7,21 @@
 //! of a level is found by its bit. Stands on `ms_base`. Only `carve` takes memory.
 #![tactic(auto)]
 
+mod area;
 mod free_bits;
 pub mod laws;
+mod leaf;
 mod leaves;
 mod levels;
+mod node;
+mod node_walk;
+mod part_table;
+mod parts;
 mod places;
 mod tree;
 
-pub use leaves::FreeLeaves;
-pub use places::Leaf;
+pub use area::RootChunkArea;
+pub use leaf::Leaf;
+pub use leaves::{FreeLeaves, LeavesOf};
+pub use part_table::PartTable;
 pub use tree::SplitTree;

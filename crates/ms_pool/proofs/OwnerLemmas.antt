@@ -13,8 +13,8 @@ use Rattle.ms_base.specs.Interval.{meet}
 use Rattle.ms_base.specs.Level.{size_of, root_words}
 use Rattle.ms_base.specs.Held.{meets_chunk}
 use Rattle.ms_buddy.specs.Leaves.{LentLeaf, AreLeaves, IsLeafAt, chunk_of, covers, free_of, span_of}
-use Rattle.ms_buddy.specs.declared.places.Leaf.{Leaf}
-use Rattle.ms_buddy.specs.declared.places.Leaf.TheVariants.{Free, Lent}
+use Rattle.ms_buddy.specs.declared.leaf.Leaf.{Leaf}
+use Rattle.ms_buddy.specs.declared.leaf.Leaf.TheVariants.{Free, Lent}
 use Rattle.ms_buddy.proofs.WalkLemmas.{NonePass, find-none}
 use Rattle.ms_pool.specs.Ledger.{Loan}
 use Rattle.ms_pool.specs.Keeping.{loan_at, loans_from}

@@ -17,7 +17,7 @@ ghost use Rattle.ms_pool.specs.Counting.{HasRoom};
 use crate::lender::Lender;
 use crate::totals::{LEVELS, PoolTotals};
 use ms_base::{Level, NODE_WORDS, SLOTS, Space, granule};
-use ms_buddy::SplitTree;
+use ms_buddy::PartTable;
 use std::alloc::Global;
 
 /// What was counted of parts that are free: how many of each level.
@@ -134,7 +134,7 @@ impl Lender {
 }
 
 /// Counts the free leaves of a level that a tree has.
-fn count_parts(counted: &mut FreeCounted, tree: &SplitTree<Global>, level: Level)
+fn count_parts(counted: &mut FreeCounted, tree: &PartTable<Global>, level: Level)
     requires { get_or counted.old.free level 0 + count_at_level level (free_of tree.now) < 2 ^ 32 }
     ensures { AreRaised counted.old.free
         (λ other. cond (level == other) (count_at_level level (free_of tree.now)) 0) counted.new.free }

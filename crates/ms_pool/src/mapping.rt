@@ -25,7 +25,7 @@ ghost use Rattle.ms_pool.specs.Mapping.{maps_of, maps_of_slot, place_words, root
 use crate::lender::Lender;
 use crate::search::granules_meeting;
 use ms_base::{ROOT_WORDS, Space, Span, granule};
-use ms_buddy::SplitTree;
+use ms_buddy::PartTable;
 use std::alloc::{AllocError, Global};
 
 /// The words of a place.
@@ -163,7 +163,7 @@ impl Lender {
 
 /// Tells what leaves each place of a root meets, in one walk over the free ones: at first all are
 /// lent.
-fn found_in(tree: &SplitTree<Global>) -> Found
+fn found_in(tree: &PartTable<Global>) -> Found
     ensures { AreFound tree.now result.lent result.free }
 {
     let mut found = Found {

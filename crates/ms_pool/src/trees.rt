@@ -19,7 +19,7 @@ ghost use Rattle.ms_pool.specs.Trees.{LeaveNone, all_roots, has_free};
 
 use crate::index::Index;
 use ms_base::{Chunk, Level, ROOT_WORDS, Space, Span};
-use ms_buddy::{Leaf, SplitTree};
+use ms_buddy::{Leaf, PartTable};
 use std::alloc::{AllocError, Global};
 use std::marker::Model;
 
@@ -27,7 +27,7 @@ use std::marker::Model;
 #[derive(Drop)]
 pub(crate) struct Trees {
     /// The tree of each root, by the root's number; 160 at most.
-    trees: Vec<SplitTree<Global>>,
+    trees: Vec<PartTable<Global>>,
     /// The levels of free leaves of each.
     index: Index,
 }
@@ -54,7 +54,7 @@ impl Trees {
     }
 
     /// The tree of a root.
-    pub(crate) fn tree(&self, root: usize) -> &SplitTree<Global>
+    pub(crate) fn tree(&self, root: usize) -> &PartTable<Global>
         requires { root < length self.now.items }
         ensures { result.now ≡ get_or self.now.items root [] }
     {
@@ -146,7 +146,7 @@ pub(crate) fn raise(trees: &mut Trees, chunk: &Chunk, greater: &Chunk)
 }
 
 /// Lends the chunk's part in the tree of its root; `false` where memory is wanting.
-fn carve_leaf(trees: &mut Vec<SplitTree<Global>>, alloc: Global, owner: u32, chunk: &Chunk) -> bool
+fn carve_leaf(trees: &mut Vec<PartTable<Global>>, alloc: Global, owner: u32, chunk: &Chunk) -> bool
     requires leaves { All AreLeaves trees.old.items }
     requires may { MayBeCarved trees.old.items chunk.now }
     ensures lent { IsTrue result
@@ -166,7 +166,7 @@ fn carve_leaf(trees: &mut Vec<SplitTree<Global>>, alloc: Global, owner: u32, chu
 }
 
 /// Takes the chunk back in the tree of its root, and answers the free leaf that results.
-fn put_back_leaf(trees: &mut Vec<SplitTree<Global>>, chunk: &Chunk) -> Span
+fn put_back_leaf(trees: &mut Vec<PartTable<Global>>, chunk: &Chunk) -> Span
     requires leaves { All AreLeaves trees.old.items }
     requires lent { IsTrue (is_lent_in (loans_from 0 trees.old.items) chunk.now) }
     ensures loans { loans_from 0 trees.new.items ≡ without_loan chunk.now (loans_from 0 trees.old.items) }
@@ -187,7 +187,7 @@ fn put_back_leaf(trees: &mut Vec<SplitTree<Global>>, chunk: &Chunk) -> Span
 }
 
 /// Makes the chunk's leaf that of the grown chunk, in the tree of its root.
-fn raise_leaf(trees: &mut Vec<SplitTree<Global>>, chunk: &Chunk, greater: &Chunk)
+fn raise_leaf(trees: &mut Vec<PartTable<Global>>, chunk: &Chunk, greater: &Chunk)
     requires leaves { All AreLeaves trees.old.items }
     requires may { MayBeRaised trees.old.items chunk.now greater.now }
     ensures loans { loans_from 0 trees.new.items
@@ -215,12 +215,12 @@ fn raise_leaf(trees: &mut Vec<SplitTree<Global>>, chunk: &Chunk, greater: &Chunk
 }
 
 /// Makes so many trees, each of one free leaf.
-fn whole_trees(alloc: Global, count: usize) -> Result<Vec<SplitTree<Global>>, AllocError>
+fn whole_trees(alloc: Global, count: usize) -> Result<Vec<PartTable<Global>>, AllocError>
     ensures { IfOk result (λ trees. trees.items ≡ replicate count []) }
 {
     let mut trees = Vec::with_capacity(alloc, count)?;
     for _ in 0..count {
-        trees.push_reserved(SplitTree::new());
+        trees.push_reserved(PartTable::new());
     }
     Ok(trees)
 }

@@ -5,7 +5,7 @@ ghost use Rattle.ms_buddy.specs.Leaves.{is_lent};
 
 use crate::row::{Answer, Row, line, mark, say, tell, told, unprepared};
 use ms_base::{Level, Refusal, Span};
-use ms_buddy::{Leaf, SplitTree};
+use ms_buddy::{Leaf, PartTable};
 use std::alloc::Global;
 use std::io;
 
@@ -26,7 +26,7 @@ pub(crate) fn tell_all(rt: &HostRuntime) -> io::Result<()> {
 }
 
 /// Makes the leaf there larger, with the front.
-fn tell_larger(rt: &HostRuntime, tree: &mut SplitTree<Global>, offset: u64)
+fn tell_larger(rt: &HostRuntime, tree: &mut PartTable<Global>, offset: u64)
     requires { offset < ROOT_WORDS }
 {
     line(rt, "tree front", &set_front(tree, offset));
@@ -35,7 +35,7 @@ fn tell_larger(rt: &HostRuntime, tree: &mut SplitTree<Global>, offset: u64)
 }
 
 /// Takes the leaf there out.
-fn tell_released(rt: &HostRuntime, tree: &mut SplitTree<Global>, offset: u64)
+fn tell_released(rt: &HostRuntime, tree: &mut PartTable<Global>, offset: u64)
     requires { offset < ROOT_WORDS }
 {
     line(rt, "tree release", &release(tree, offset));
@@ -43,15 +43,15 @@ fn tell_released(rt: &HostRuntime, tree: &mut SplitTree<Global>, offset: u64)
 }
 
 /// Makes a tree that has lent two parts, of which the lower has a free buddy.
-fn lending(alloc: Global) -> Result<SplitTree<Global>, Refusal> {
-    let mut tree = SplitTree::new();
+fn lending(alloc: Global) -> Result<PartTable<Global>, Refusal> {
+    let mut tree = PartTable::new();
     tree.carve(alloc, Level::new(10), 512, 1, 100)?;
     tree.carve(alloc, Level::new(12), 0, 2, 7)?;
     Ok(tree)
 }
 
 /// Finds the lent leaf that covers an offset.
-fn lent_at(tree: &SplitTree<Global>, offset: u64) -> Option<Span>
+fn lent_at(tree: &PartTable<Global>, offset: u64) -> Option<Span>
     requires { offset < ROOT_WORDS }
     ensures { IfSome result (λ span. IsTrue (is_lent tree.now span)) }
 {
@@ -62,7 +62,7 @@ fn lent_at(tree: &SplitTree<Global>, offset: u64) -> Option<Span>
 }
 
 /// Makes the front of the leaf there as large as the leaf, and tells how large.
-fn set_front(tree: &mut SplitTree<Global>, offset: u64) -> Option<u64>
+fn set_front(tree: &mut PartTable<Global>, offset: u64) -> Option<u64>
     requires { offset < ROOT_WORDS }
 {
     let span = lent_at(tree, offset)?;
@@ -72,7 +72,7 @@ fn set_front(tree: &mut SplitTree<Global>, offset: u64) -> Option<u64>
 }
 
 /// Tells whether the leaf there can become its parent.
-fn can_enlarge(tree: &SplitTree<Global>, offset: u64) -> Option<bool>
+fn can_enlarge(tree: &PartTable<Global>, offset: u64) -> Option<bool>
     requires { offset < ROOT_WORDS }
 {
     let span = lent_at(tree, offset)?;
@@ -80,7 +80,7 @@ fn can_enlarge(tree: &SplitTree<Global>, offset: u64) -> Option<bool>
 }
 
 /// Makes the leaf there its parent.
-fn enlarge(tree: &mut SplitTree<Global>, offset: u64) -> Option<Result<Span, Refusal>>
+fn enlarge(tree: &mut PartTable<Global>, offset: u64) -> Option<Result<Span, Refusal>>
     requires { offset < ROOT_WORDS }
 {
     let span = lent_at(tree, offset)?;
@@ -89,7 +89,7 @@ fn enlarge(tree: &mut SplitTree<Global>, offset: u64) -> Option<Result<Span, Ref
 }
 
 /// Takes the leaf there out.
-fn release(tree: &mut SplitTree<Global>, offset: u64) -> Option<Span>
+fn release(tree: &mut PartTable<Global>, offset: u64) -> Option<Span>
     requires { offset < ROOT_WORDS }
 {
     let span = lent_at(tree, offset)?;
@@ -97,7 +97,7 @@ fn release(tree: &mut SplitTree<Global>, offset: u64) -> Option<Span>
 }
 
 /// Tells the leaves and what the searches find.
-fn tell_tree(rt: &HostRuntime, tree: &SplitTree<Global>) {
+fn tell_tree(rt: &HostRuntime, tree: &PartTable<Global>) {
     for offset in [0, 128, 512] {
         line(rt, "tree leaf", &tree.leaf_at(offset));
     }
@@ -126,13 +126,13 @@ fn tell_tree(rt: &HostRuntime, tree: &SplitTree<Global>) {
 #[derive(Drop)]
 pub(crate) struct Carving {
     alloc: Global,
-    tree: SplitTree<Global>,
+    tree: PartTable<Global>,
 }
 
 impl Carving {
     /// Prepares a tree that has lent nothing: it takes memory as it is split for the first time.
     pub(crate) fn prepared(alloc: Global) -> Carving {
-        let tree = SplitTree::new();
+        let tree = PartTable::new();
         Carving { alloc, tree }
     }
 }

@@ -6,11 +6,11 @@ ghost use Rattle.ms_base.specs.declared.sizes.TheConstants.{ROOT_WORDS};
 use super::same;
 use linked_list_allocator::LocalHeap;
 use ms_base::{Level, Refusal, Span};
-use ms_buddy::{Leaf, SplitTree};
+use ms_buddy::{Leaf, PartTable};
 use std::alloc::Allocator;
 
 /// Releases the leaf that covers the offset, where it is lent.
-fn release_at<A: Allocator>(tree: &mut SplitTree<A>, offset: u64) -> Option<Span>
+fn release_at<A: Allocator>(tree: &mut PartTable<A>, offset: u64) -> Option<Span>
     requires { offset < ROOT_WORDS }
 {
     match tree.leaf_at(offset) {
@@ -21,7 +21,7 @@ fn release_at<A: Allocator>(tree: &mut SplitTree<A>, offset: u64) -> Option<Span
 
 /// Enlarges the leaf that covers the offset, where it is lent and the front is in range.
 fn enlarge_at<A: Allocator>(
-    tree: &mut SplitTree<A>,
+    tree: &mut PartTable<A>,
     offset: u64,
     front: u64,
 ) -> Option<Result<Span, Refusal>>
@@ -48,7 +48,7 @@ fn span(start: u64, level: u8) -> Span
 }
 
 /// The free leaves of a tree, the first ten and whether there is another.
-fn free_leaves<A: Allocator>(tree: &SplitTree<A>) -> ([Option<Span>; 10], bool) {
+fn free_leaves<A: Allocator>(tree: &PartTable<A>) -> ([Option<Span>; 10], bool) {
     let mut leaves = tree.free_leaves();
     let mut free = [None; 10];
     for place in 0..10 {
@@ -68,7 +68,7 @@ type Answers = (
 
 /// Calls a new tree on the heap.
 fn called(heap: &LocalHeap) -> Answers {
-    let mut tree = SplitTree::new();
+    let mut tree = PartTable::new();
     let first = tree.carve(heap, Level::new(10), 0, 1, 512);
     let second = tree.carve(heap, Level::new(11), 768, 2, 256);
     let free = free_leaves(&tree);
@@ -116,7 +116,7 @@ fn a_tree_lends_and_merges_and_gives_its_memory_back(rt: HostRuntime) {
 /// Has a new tree lend a part on a heap that is too small: what it is answered, whether the tree is
 /// whole, and what it keeps of the heap.
 fn called_without_room(heap: &LocalHeap) -> (Result<(), Refusal>, bool, usize) {
-    let mut tree = SplitTree::new();
+    let mut tree = PartTable::new();
     let refused = tree.carve(heap, Level::new(12), 0, 1, 128);
     (refused, tree.is_whole(), heap.used())
 }
@@ -131,7 +131,7 @@ fn a_carve_that_is_refused_gives_back_what_it_took(rt: HostRuntime) {
 }
 
 /// Lends all parts of the smallest level, and counts them.
-fn carve_all<'a>(tree: &mut SplitTree<&'a LocalHeap>, heap: &'a LocalHeap) -> u32 {
+fn carve_all<'a>(tree: &mut PartTable<&'a LocalHeap>, heap: &'a LocalHeap) -> u32 {
     let mut lent: u32 = 0;
     for part in 0..4096 {
         if tree.carve(heap, Level::new(12), 128 * part, 1, 128).is_ok() {
@@ -142,7 +142,7 @@ fn carve_all<'a>(tree: &mut SplitTree<&'a LocalHeap>, heap: &'a LocalHeap) -> u3
 }
 
 /// Releases them, and counts them.
-fn release_all<A: Allocator>(tree: &mut SplitTree<A>) -> u32 {
+fn release_all<A: Allocator>(tree: &mut PartTable<A>) -> u32 {
     let mut released: u32 = 0;
     for part in 0..4096 {
         if release_at(tree, 128 * part).is_some() {
@@ -155,7 +155,7 @@ fn release_all<A: Allocator>(tree: &mut SplitTree<A>) -> u32 {
 /// Lends a part again after all were lent and released: the numbers of those, what the tree kept of
 /// the heap, what the part is answered, and what the tree keeps then.
 fn called_again(heap: &LocalHeap) -> ([u32; 2], usize, Result<(), Refusal>, usize) {
-    let mut tree = SplitTree::new();
+    let mut tree = PartTable::new();
     let counts = [carve_all(&mut tree, heap), release_all(&mut tree)];
     let kept = heap.used();
     let again = tree.carve(heap, Level::new(12), 524160, 1, 128);

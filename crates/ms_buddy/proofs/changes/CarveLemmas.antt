@@ -37,7 +37,7 @@ ends_in part level start small large h from below =
     overlap a s b t h k l e = grind (arith, nat_tests)
 
 -- A part of a greater level lies in the half where it starts.
-lower_inside : (part : Span) (level start half : ℕ) → IsPlace level start → level < part.level
+pub lower_inside : (part : Span) (level start half : ℕ) → IsPlace level start → level < part.level
     → IsPart part.start part.level → IsInside level start part
     → half ≡ size_of (level + 1) → part.start < start + half → IsInside (level + 1) start part
 lower_inside part level start half place h is_part inside size below = record {
@@ -50,7 +50,7 @@ lower_inside part level start half place h is_part inside size below = record {
     half_place : IsPlace (level + 1) start
     half_place = lower_place level start place (omega (arith, is_part.0))
 
-upper_inside : (part : Span) (level start half : ℕ) → level < part.level → part.level ≤ highest_level
+pub upper_inside : (part : Span) (level start half : ℕ) → level < part.level → part.level ≤ highest_level
     → IsInside level start part
     → half ≡ size_of (level + 1) → start + half ≤ part.start → IsInside (level + 1) (start + half) part
 upper_inside part level start half h k inside size above = record {

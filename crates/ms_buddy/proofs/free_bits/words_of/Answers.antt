@@ -1,5 +1,0 @@
-use Rattle.ms_buddy.proofs.bits.NumberLemmas.{words_at}
-use Rattle.ms_buddy.proofs.free_bits.words_of.Goals as goal
-
-pub returns-clause-size : goal.returns-clause-size
-returns-clause-size c = words_at c.args.level c.requires
