@@ -1,5 +1,5 @@
 #!/usr/bin/env python3
-"""Prints the table of lines by crate that docs/PROVING.md has: run at the top, `python3 bench/lines.py`."""
+"""Prints a table of lines by crate: run at the top, `python3 bench/lines.py`."""
 import pathlib
 
 

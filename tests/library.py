@@ -9,7 +9,7 @@ import shutil
 import subprocess
 
 from claims import Skipped, Test, expect, first_difference
-from workbench import FOLDER, ROOT, compiler
+from workbench import FOLDER, ROOT, compiler, tools
 
 EXAMPLES = os.path.join(ROOT, "examples", "c")
 OUT = os.path.join(ROOT, "crates", "ms_c", "out")
@@ -64,22 +64,44 @@ def answers_each_call(bench):
     expect_calls_answered(linked(bench, EXAMPLES, "calls"))
 
 
-def is_made_by_its_makefile(bench):
-    """Both programs are built by `make` alone, in a copy whose folders lie to each other as here, and do as they do."""
-    if not shutil.which("make"):
-        raise Skipped("make")
+def example_tree(bench, name):
+    """A copy of the example, with the archive released beside it as in the repository; its folder."""
+    for tool in ("make", "xz"):
+        if not shutil.which(tool):
+            raise Skipped(tool)
     expect(os.path.exists(ARCHIVE), "there is no archive of the library")
-    copy = bench.built("library_make")
-    folder, out = os.path.join(copy, "examples", "c"), os.path.join(copy, "crates", "ms_c", "out")
-    for place in (folder, out):
+    copy = bench.built(name)
+    folder, release = os.path.join(copy, "examples", "c"), os.path.join(copy, "release")
+    for place in (folder, release):
         os.makedirs(place)
-    for name in ("Makefile", "nizgrabul.h", "calls.c", "runtime.c"):
-        shutil.copy(os.path.join(EXAMPLES, name), folder)
-    os.symlink(ARCHIVE, os.path.join(out, os.path.basename(ARCHIVE)))
+    for file in ("Makefile", "nizgrabul.h", "calls.c", "runtime.c"):
+        shutil.copy(os.path.join(EXAMPLES, file), folder)
+    with open(os.path.join(release, "libms_c.a.xz"), "wb") as file:
+        file.write(printed(["xz", "-c", ARCHIVE]))
+    return folder
+
+
+def is_made_by_its_makefile(bench):
+    """Both programs are built by `make` alone, over the released library, in a copy whose folders lie to each other as here."""
+    folder = example_tree(bench, "library_make")
     others = {name: word for name, word in os.environ.items() if name not in OF_MAKE}
     printed(["make", "-C", folder], env={**others, "CC": " ".join(compiler()), "CFLAGS": "-Werror"})
     expect_calls_answered(os.path.join(folder, "calls"))
     printed([os.path.join(folder, "runtime")])
+
+
+def makefile_says_what_is_missing(bench):
+    """A line says which tool is missing: the C compiler, the toolchain, or what unpacks the library."""
+    folder = example_tree(bench, "library_missing")
+    others = {name: word for name, word in os.environ.items() if name not in OF_MAKE}
+    for without, settings, text in (
+            ((), ["CC=no_such_compiler"], b"a C compiler is missing: no_such_compiler\n"),
+            (("rt",), [], b"the Rattle toolchain is missing: rt is not on PATH\n"),
+            (("xz", "python3"), [], b"xz and python3 are missing, one of which unpacks ../../release/libms_c.a.xz\n")):
+        path = {"PATH": tools(bench, *without)} if without else {}
+        made = subprocess.run(["make", "-C", folder, *settings], env={**others, **path}, capture_output=True)
+        expect(made.returncode != 0 and text in made.stderr, text, made.stderr)
+        subprocess.run(["make", "-C", folder, "clean"], env=others, capture_output=True, check=True)
 
 
 def commits_real_memory(bench):
@@ -173,6 +195,7 @@ def runs_from_rust(bench):
 def tests():
     yield Test("library: each call answers from C", answers_each_call)
     yield Test("library: the example's Makefile builds it", is_made_by_its_makefile)
+    yield Test("library: the Makefile says what is missing", makefile_says_what_is_missing)
     yield Test("library: real memory follows the account", commits_real_memory)
     yield Test("library: each growth is refused in turn", gives_all_memory_back)
     yield Test("library: whose each word is, of 1,000 loaders", tells_whose_each_word_is)

@@ -2,6 +2,8 @@
 import os
 import shutil
 import subprocess
+import sys
+import tempfile
 
 from program import Program
 
@@ -46,3 +48,15 @@ def build(room):
     for name in ("refuse", "devices", "colliding"):
         words = [*compiler(), *how, "-o", os.path.join(room, name), os.path.join(FOLDER, "c", f"{name}.c")]
         subprocess.run(words, check=True)
+
+
+def tools(bench, *without):
+    """A folder to be a PATH, with a link to each tool of the system but those without, and no toolchain."""
+    folder = tempfile.mkdtemp(dir=bench.room)
+    for place in ("/bin", "/usr/bin"):
+        for name in os.listdir(place):
+            if name not in (*without, "rt") and not os.path.lexists(os.path.join(folder, name)):
+                os.symlink(os.path.join(place, name), os.path.join(folder, name))
+    if "python3" not in without and not os.path.lexists(os.path.join(folder, "python3")):
+        os.symlink(sys.executable, os.path.join(folder, "python3"))
+    return folder
