@@ -1,4 +1,8 @@
-"""Traces that are made to be slow: each must end within ten seconds on one processor, and within a gigabyte."""
+"""Traces that are made to be slow: each must end within ten seconds on one processor, and within a gigabyte.
+
+Those that can be as hard at ten times the lines are tried there too, with ten times the bounds, so that neither time nor
+memory grows faster than the lines.
+"""
 import ctypes
 import random
 import resource
@@ -8,23 +12,26 @@ from outputs import answers_of, expect_sums, reports_of
 from program import MEGABYTE, OneProcessor
 
 MOST_SECONDS, MOST_MEMORY, MOST_LINES = 10, 1024 * MEGABYTE, 100000
+# The traces of ten times the lines, and the words that ask for so many.
+TENFOLD, ASKED = 10, ("--max-lines", "1000000")
 WORD = 1 << 64
 
 
-def text_of(lines):
+def text_of(lines, scale=1):
     lines = list(lines)
-    expect(len(lines) <= MOST_LINES, "a trace is too long", len(lines))
+    expect(len(lines) <= scale * MOST_LINES, "a trace is too long", len(lines))
     return ("\n".join(lines) + "\n").encode()
 
 
-def answered(bench, words, text, most_memory=MOST_MEMORY):
+def answered(bench, words, text, most_memory=MOST_MEMORY, scale=1):
     """Runs a trace on one processor within the bounds, and gives its answers and what it took."""
+    words, most_seconds = (*words, *(ASKED if scale > 1 else ())), scale * MOST_SECONDS
     with OneProcessor():
-        ended = bench.run(words, text, limits={resource.RLIMIT_CPU: MOST_SECONDS}, seconds=10 * MOST_SECONDS)
+        ended = bench.run(words, text, limits={resource.RLIMIT_CPU: most_seconds}, seconds=10 * most_seconds)
     figures = f"{ended.seconds:.2f} processor seconds, {ended.memory // MEGABYTE} MB"
     expect(ended.status == 0, f"status {ended.status} after {figures}", ended.errors)
     expect_ended(ended, 0)
-    expect(ended.seconds < MOST_SECONDS and ended.memory < most_memory, f"it took {figures}")
+    expect(ended.seconds < most_seconds and ended.memory < scale * most_memory, f"it took {figures}")
     return answers_of(ended.output), figures
 
 
@@ -45,16 +52,16 @@ def colliding(bench, count):
     return list(names)
 
 
-def names_of_one_place(bench):
+def names_of_one_place(bench, scale):
     """Block names that the map of names looks for in one place; the last come and go, and absent ones are asked for."""
     names = colliding(bench, 33000)
     present, absent = names[:32000], names[32000:]
     lines = ["new 1 standard"] + [f"alloc 1 {name} 2" for name in present]
-    while len(lines) < MOST_LINES - 4:
+    while len(lines) < scale * MOST_LINES - 4:
         place = len(lines) % 1000
         last, other = present[-1 - place], absent[place]
         lines += [f"read 1 {last} 0", f"free 1 {other}", f"free 1 {last}", f"alloc 1 {last} 2"]
-    answers, figures = answered(bench, (), text_of(lines))
+    answers, figures = answered(bench, (), text_of(lines, scale), scale=scale)
     expect(len(answers) == len(lines), "not each line is answered")
     expect_all(answers[:32001], b"ok")
     for place, reply in enumerate((b"value 0", b"refused NoBlock", b"ok", b"ok")):
@@ -96,7 +103,7 @@ def depth_of(blocks):
     return depth
 
 
-def deepest_tree(bench, workers):
+def deepest_tree(bench, workers, scale):
     """Free blocks whose weights rise with their sizes: a tree balanced by these would be a list."""
     blocks = blocks_by_weight(15500, 8300)
     freed = [name for name, (_, _, is_freed) in enumerate(blocks) if is_freed]
@@ -106,10 +113,10 @@ def deepest_tree(bench, workers):
     replies = [answer.reply for answer in answers_of(placed.output)]
     expect(replies == wanted, "a block lies elsewhere than the trace is made for")
     lines += [f"free 1 {name}" for name in sorted(freed, key=lambda name: -weight_of(blocks[name][0]))]
-    while len(lines) < MOST_LINES - 3:
+    while len(lines) < scale * MOST_LINES - 3:
         lines += [f"alloc 1 {len(blocks)} 2", f"free 1 {len(blocks)}"]
     lines.append("report")
-    answers, figures = answered(bench, ["--workers", str(workers)], text_of(lines))
+    answers, figures = answered(bench, ["--workers", str(workers)], text_of(lines, scale), scale=scale)
     expect_all(answers, b"ok")
     expect_sums(reports_of(answers)[0])
     return f"{figures}, {depth_of(blocks)} deep by weights"
@@ -123,17 +130,17 @@ ORDERS = {
 }
 
 
-def free_blocks_in_order(bench, order):
+def free_blocks_in_order(bench, order, scale):
     """30,000 blocks of rising sizes are freed in an order; then the smallest, one in the middle and the largest go."""
     sizes = [2 + name // 16 for name in range(30000)]
     lines = ["new 1 boot"] + [f"alloc 1 {name} {words}" for name, words in enumerate(sizes)]
     lines += [f"free 1 {name}" for name in ORDERS[order](list(range(30000)))]
     wanted = (sizes[0], sizes[15000], sizes[-1])
-    while len(lines) < MOST_LINES - 8:
+    while len(lines) < scale * MOST_LINES - 8:
         lines += [f"alloc 1 {name} {words}" for name, words in enumerate(wanted)]
         lines += [f"free 1 {name}" for name in range(3)]
     lines.append("report")
-    answers, figures = answered(bench, (), text_of(lines))
+    answers, figures = answered(bench, (), text_of(lines, scale), scale=scale)
     expect_all(answers, b"ok")
     report, = reports_of(answers)
     expect_sums(report)
@@ -141,12 +148,13 @@ def free_blocks_in_order(bench, order):
     return figures
 
 
-def all_loader_names(bench, workers):
-    """65,536 loaders, each name that there is, falling; blocks for half of them, and all numbers add up."""
+def all_loader_names(bench, workers, scale):
+    """65,536 loaders, each name that there is, falling; blocks for half of them by turns, and all numbers add up."""
     lines = [f"new {name} hidden" for name in reversed(range(65536))]
-    lines += [f"alloc {name} 1 2" for name in range(0, 65536, 2)][:MOST_LINES - len(lines) - 1]
+    blocks = [f"alloc {name} {number} 2" for number in range(28) for name in range(0, 65536, 2)]
+    lines += blocks[:scale * MOST_LINES - len(lines) - 1]
     lines.append("report")
-    answers, figures = answered(bench, ["--workers", str(workers)], text_of(lines))
+    answers, figures = answered(bench, ["--workers", str(workers)], text_of(lines, scale), scale=scale)
     expect_all(answers, b"ok")
     report, = reports_of(answers)
     expect_sums(report)
@@ -155,13 +163,13 @@ def all_loader_names(bench, workers):
     return figures
 
 
-def phases_of_one_line(bench, workers):
-    """45,000 phases of one line each, while 1,000 loaders stand by."""
+def phases_of_one_line(bench, workers, scale):
+    """45,000 phases of one line each, or ten times as many, while 1,000 loaders stand by."""
     lines = [f"new {name} standard" for name in range(1000)] + [f"alloc {name} 1 2" for name in range(1000)] + ["sync"]
-    for number in range(45000):
+    for number in range(scale * 45000):
         lines += [f"write {number % 1000} 1 0 {number}", "sync"]
     lines.append("report")
-    answers, figures = answered(bench, ["--workers", str(workers)], text_of(lines))
+    answers, figures = answered(bench, ["--workers", str(workers)], text_of(lines, scale), scale=scale)
     expect(len(answers) == len(lines), "not each line is answered")
     expect_all(answers, b"ok")
     report, = reports_of(answers)
@@ -212,14 +220,14 @@ def a_limit_among_small_parts(bench):
     return figures
 
 
-def the_largest_block_comes_and_goes(bench):
-    """A block of a whole root chunk is written at one place and freed, 24,999 times; the next reads 0 there."""
+def the_largest_block_comes_and_goes(bench, scale):
+    """A block of a whole root chunk is written at one place and freed, 24,999 times or ten times that; the next reads 0 there."""
     lines, index = ["new 1 boot"], 0
-    for number in range(24999):
+    for number in range(scale * 24999):
         lines += ["alloc 1 1 524288", f"read 1 1 {index}"]
         index = number * 7919 % 524288
         lines += [f"write 1 1 {index} 7", "free 1 1"]
-    answers, figures = answered(bench, (), text_of(lines))
+    answers, figures = answered(bench, (), text_of(lines, scale), scale=scale)
     expect(len(answers) == len(lines), "not each line is answered")
     expect_all(answers[2::4], b"value 0")
     for place in (1, 3, 4):
@@ -259,20 +267,21 @@ def phases_of_two_lines(bench, workers, loaders, phases):
 
 
 def tests():
-    yield Test("block names that hash to one place", names_of_one_place)
-    for workers in (1, 2):
-        yield Test(f"the deepest tree of free blocks, {workers} at work", deepest_tree, (workers,))
-    for order in ORDERS:
-        yield Test(f"free blocks that come in {order} order", free_blocks_in_order, (order,))
+    for scale, more in ((1, ""), (TENFOLD, ", ten times the lines")):
+        yield Test(f"block names that hash to one place{more}", names_of_one_place, (scale,))
+        for workers in (1, 2):
+            yield Test(f"the deepest tree of free blocks, {workers} at work{more}", deepest_tree, (workers, scale))
+        for order in ORDERS:
+            yield Test(f"free blocks that come in {order} order{more}", free_blocks_in_order, (order, scale))
+        yield Test(f"the largest block comes and goes{more}", the_largest_block_comes_and_goes, (scale,))
+        for workers in (1, 8):
+            yield Test(f"all 65,536 loader names, {workers} at work{more}", all_loader_names, (workers, scale))
+        for workers in (1, 2, 8):
+            yield Test(f"45,000 phases of one line, {workers} at work{more}", phases_of_one_line, (workers, scale))
     yield Test("one loader of 49,500 chunks", one_loader_of_many_chunks)
     yield Test("a pool of small parts", a_pool_of_small_parts)
     yield Test("a limit among small parts", a_limit_among_small_parts)
-    yield Test("the largest block comes and goes", the_largest_block_comes_and_goes)
     yield Test("blocks that lie far apart", blocks_that_lie_far_apart)
-    for workers in (1, 8):
-        yield Test(f"all 65,536 loader names, {workers} at work", all_loader_names, (workers,))
-    for workers in (1, 2, 8):
-        yield Test(f"45,000 phases of one line, {workers} at work", phases_of_one_line, (workers,))
     for workers in (1, 2, 8):
         yield Test(f"30,000 phases of two lines, {workers} at work", phases_of_two_lines, (workers, 1000, 30000))
     for workers in (1, 2, 8):

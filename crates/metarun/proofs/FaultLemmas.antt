@@ -114,29 +114,29 @@ keeps_lines ([] ∷ part ∷ before) line rest some = let kept = keeps_lines (pa
     (kept.0, ap (λ (all : List (List ℕ)). [] ∷ all) kept.1)
 
 -- The first two checks, whatever the line is else.
-too_many : (number : ℕ) (line : List ℕ) → 100000 < number → fault_of number line ≡ Some TooManyLines
-too_many number line high = rw (lt-ltb 100000 number high) refl
+too_many : (limit : ℕ) (number : ℕ) (line : List ℕ) → limit < number → fault_of limit number line ≡ Some TooManyLines
+too_many limit number line high = rw (lt-ltb limit number high) refl
 
-too_long : (number : ℕ) (line : List ℕ) → number ≤ 100000 → 80 < length line → fault_of number line ≡ Some LineTooLong
-too_long number line low long = rw (le-ltb 100000 number low, lt-ltb 80 (length line) long) refl
+too_long : (limit : ℕ) (number : ℕ) (line : List ℕ) → number ≤ limit → 80 < length line → fault_of limit number line ≡ Some LineTooLong
+too_long limit number line low long = rw (le-ltb limit number low, lt-ltb 80 (length line) long) refl
 
 -- A line without a fault is short and has a small number.
-none_is_short : (number : ℕ) (line : List ℕ) → fault_of number line ≡ None → (number ≤ 100000) × (length line ≤ 80)
-none_is_short number line none = elim (cases_lt 100000 number) [
-  | inl high ↦ absurd (none-some TooManyLines (sym none ∙ too_many number line high))
+none_is_short : (limit : ℕ) (number : ℕ) (line : List ℕ) → fault_of limit number line ≡ None → (number ≤ limit) × (length line ≤ 80)
+none_is_short limit number line none = elim (cases_lt limit number) [
+  | inl high ↦ absurd (none-some TooManyLines (sym none ∙ too_many limit number line high))
   | inr low ↦ elim (cases_lt 80 (length line)) [
-    | inl long ↦ absurd (none-some LineTooLong (sym none ∙ too_long number line low long))
+    | inl long ↦ absurd (none-some LineTooLong (sym none ∙ too_long limit number line low long))
     | inr short ↦ (low, short)
   ]
 ]
 
 -- So many lines without a fault have few bytes.
-few_bytes : (number : ℕ) (lines : List (List ℕ)) → number ≤ 100001 → AreFaultless number lines
-    → (ended lines ≤ 81 * length lines) × (number + length lines ≤ 100001)
-few_bytes number [] low faultless = (omega arith, omega (arith, low))
-few_bytes number (line ∷ lines) low faultless =
-    let first = none_is_short number line faultless.0 in
-    let rest = few_bytes (number + 1) lines (omega (arith, first.0)) faultless.1 in
+few_bytes : (limit : ℕ) (number : ℕ) (lines : List (List ℕ)) → number ≤ limit + 1 → AreFaultless limit number lines
+    → (ended lines ≤ 81 * length lines) × (number + length lines ≤ limit + 1)
+few_bytes limit number [] low faultless = (omega arith, omega (arith, low))
+few_bytes limit number (line ∷ lines) low faultless =
+    let first = none_is_short limit number line faultless.0 in
+    let rest = few_bytes limit (number + 1) lines (omega (arith, first.0)) faultless.1 in
     (omega (arith, first.1, rest.0), omega (arith, rest.1))
 
 ended-append : (parts more : List (List ℕ)) → ended (parts ++ more) ≡ ended parts + ended more
@@ -153,11 +153,11 @@ joined_some part [] (next ∷ more) = omega arith
 joined_some part (next ∷ parts) more = omega arith
 
 -- A faulty line that is complete is the fault of a longer text too.
-complete_stays : (text more : List ℕ) (number : ℕ) (kind : FaultKind) (before : List (List ℕ)) (line next : List ℕ)
+complete_stays : (limit : ℕ) (text more : List ℕ) (number : ℕ) (kind : FaultKind) (before : List (List ℕ)) (line next : List ℕ)
     (parts : List (List ℕ))
-    → slice_split ends_line text ≡ before ++ line ∷ next ∷ parts → AreFaultless 1 before → number ≡ length before + 1
-    → fault_of number line ≡ Some kind → HasFault (text ++ more) number kind
-complete_stays text more number kind before line next parts cut faultless number_is kind_is =
+    → slice_split ends_line text ≡ before ++ line ∷ next ∷ parts → AreFaultless limit 1 before → number ≡ length before + 1
+    → fault_of limit number line ≡ Some kind → HasFault limit (text ++ more) number kind
+complete_stays limit text more number kind before line next parts cut faultless number_is kind_is =
     let rest : List (List ℕ) = joined (next ∷ parts) (slice_split ends_line more) in
     let kept = keeps_lines before line rest (omega (arith, joined_some next parts (slice_split ends_line more))) in
     record {
@@ -173,35 +173,35 @@ complete_stays text more number kind before line next parts cut faultless number
     }
 
 -- A line that has too many bytes, or is one too many, has this fault with more bytes too.
-longer_fault : (number : ℕ) (line more : List ℕ) (kind : FaultKind) → (100000 < number) ⊎ (80 < length line)
-    → fault_of number line ≡ Some kind → fault_of number (line ++ more) ≡ Some kind
-longer_fault number line more kind why kind_is = elim (cases_lt 100000 number) [
-  | inl high ↦ too_many number (line ++ more) high ∙ sym (too_many number line high) ∙ kind_is
+longer_fault : (limit : ℕ) (number : ℕ) (line more : List ℕ) (kind : FaultKind) → (limit < number) ⊎ (80 < length line)
+    → fault_of limit number line ≡ Some kind → fault_of limit number (line ++ more) ≡ Some kind
+longer_fault limit number line more kind why kind_is = elim (cases_lt limit number) [
+  | inl high ↦ too_many limit number (line ++ more) high ∙ sym (too_many limit number line high) ∙ kind_is
   | inr low ↦ elim why [
     | inl high ↦ absurd (omega (arith, high, low))
-    | inr long ↦ too_long number (line ++ more) low (omega (arith, length-append line more, long))
-        ∙ sym (too_long number line low long) ∙ kind_is
+    | inr long ↦ too_long limit number (line ++ more) low (omega (arith, length-append line more, long))
+        ∙ sym (too_long limit number line low long) ∙ kind_is
   ]
 ]
 
 -- A faulty line at the end of the longest beginning.
-open_stays : (text : List ℕ) (number : ℕ) (kind : FaultKind) (before : List (List ℕ)) (line : List ℕ) (whole : List ℕ)
+open_stays : (limit : ℕ) (text : List ℕ) (number : ℕ) (kind : FaultKind) (before : List (List ℕ)) (line : List ℕ) (whole : List ℕ)
     (more : List (List ℕ))
-    → length text ≡ 8100001 → slice_split ends_line text ≡ before ++ line ∷ []
+    → length text ≡ (81 * limit + 1) → slice_split ends_line text ≡ before ++ line ∷ []
     → slice_split ends_line whole ≡ before ++ in_front line more
-    → AreFaultless 1 before → number ≡ length before + 1 → fault_of number line ≡ Some kind → HasFault whole number kind
-open_stays text number kind before line whole more size cut longer faultless number_is kind_is =
-    let few = few_bytes 1 before (omega arith) faultless in
+    → AreFaultless limit 1 before → number ≡ length before + 1 → fault_of limit number line ≡ Some kind → HasFault limit whole number kind
+open_stays limit text number kind before line whole more size cut longer faultless number_is kind_is =
+    let few = few_bytes limit 1 before (omega arith) faultless in
     let all = ap ended cut ∙ ended-append before (line ∷ []) in
     let long : 1 ≤ length line = omega (arith, few, all, ended_parts ends_line text, size) in
-    let why : (100000 < number) ⊎ (80 < length line) = elim (cases_lt 100000 number) [
+    let why : (limit < number) ⊎ (80 < length line) = elim (cases_lt limit number) [
       | inl high ↦ inl high
       | inr low ↦ inr (omega (arith, few, all, ended_parts ends_line text, size, number_is, low))
     ] in
     at more longer long why
   where
     at : (more : List (List ℕ)) → slice_split ends_line whole ≡ before ++ in_front line more → 1 ≤ length line
-        → (100000 < number) ⊎ (80 < length line) → HasFault whole number kind
+        → (limit < number) ⊎ (80 < length line) → HasFault limit whole number kind
     at [] longer long why = let kept = keeps_lines before line [] (omega (arith, long)) in
         record {
           before = before;
@@ -221,14 +221,14 @@ open_stays text number kind before line whole more size cut longer faultless num
           lines_are = ap without_empty_end longer ∙ kept.1;
           faultless = faultless;
           number_is = number_is;
-          kind_is = longer_fault number line part kind why kind_is;
+          kind_is = longer_fault limit number line part kind why kind_is;
         }
 
 -- The fault of the longest beginning that is read is that of the whole input.
-pub fault_stays : (text more : List ℕ) (number : ℕ) (kind : FaultKind) → length text ≡ 8100001
-    → HasFault text number kind
-    → HasFault (text ++ more) number kind
-fault_stays text more number kind size fault = elim (lines_or_more (slice_split ends_line text)) [
+pub fault_stays : (limit : ℕ) (text more : List ℕ) (number : ℕ) (kind : FaultKind) → length text ≡ (81 * limit + 1)
+    → HasFault limit text number kind
+    → HasFault limit (text ++ more) number kind
+fault_stays limit text more number kind size fault = elim (lines_or_more (slice_split ends_line text)) [
   | inl same ↦ whole fault.after (same ∙ fault.lines_are)
   | inr same ↦
       cut fault.after
@@ -237,21 +237,21 @@ fault_stays text more number kind size fault = elim (lines_or_more (slice_split 
 ]
   where
     whole : (after : List (List ℕ)) → slice_split ends_line text ≡ fault.before ++ fault.line ∷ after
-        → HasFault (text ++ more) number kind
+        → HasFault limit (text ++ more) number kind
     whole [] is =
-        open_stays text number kind fault.before fault.line (text ++ more) (slice_split ends_line more) size is
+        open_stays limit text number kind fault.before fault.line (text ++ more) (slice_split ends_line more) size is
         (split_longer ends_line text more ∙ ap (λ (all : List (List ℕ)). joined all (slice_split ends_line more)) is
         ∙ joined_last fault.before fault.line (slice_split ends_line more))
         fault.faultless fault.number_is fault.kind_is
     whole (next ∷ after) is =
-        complete_stays text more number kind fault.before fault.line next after is fault.faultless fault.number_is
+        complete_stays limit text more number kind fault.before fault.line next after is fault.faultless fault.number_is
         fault.kind_is
 
     cut : (after : List (List ℕ)) → slice_split ends_line text ≡ fault.before ++ fault.line ∷ (after ++ [] ∷ [])
-        → HasFault (text ++ more) number kind
+        → HasFault limit (text ++ more) number kind
     cut [] is =
-        complete_stays text more number kind fault.before fault.line [] [] is fault.faultless fault.number_is
+        complete_stays limit text more number kind fault.before fault.line [] [] is fault.faultless fault.number_is
         fault.kind_is
     cut (next ∷ after) is =
-        complete_stays text more number kind fault.before fault.line next (after ++ [] ∷ []) is fault.faultless
+        complete_stays limit text more number kind fault.before fault.line next (after ++ [] ∷ []) is fault.faultless
         fault.number_is fault.kind_is

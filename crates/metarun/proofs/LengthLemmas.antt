@@ -1,5 +1,5 @@
--- A text that reads as a trace is short: it has at most 100000 lines of 80 bytes. Used by
--- `session`, which reads no more of its input than that and one byte.
+-- A text that reads as a trace is short: it has at most so many lines as the limit says, of 80 bytes. Used
+-- by `session`, which reads no more of its input than that and one byte.
 use Rattle.std.proofs.Common.{◌≡◌, ◌≤◌, ℕ, ◌+◌, ◌-◌, ◌*◌, ◌==◌, Bool, true, false, cond, List, [], ◌∷◌, length, refl}
 use Rattle.std.proofs.Common.{◌∙◌, arith}
 use Rattle.std.specs.List.{slice_split, onto_first}
@@ -37,27 +37,27 @@ ended_without ((byte ∷ part) ∷ parts) = omega (arith, ended_without parts)
 ended_without ([] ∷ part ∷ parts) = omega (arith, ended_without (part ∷ parts))
 
 -- One line more takes its bytes and its end, of the 81 that there are for each line that is left.
-line_more : (number bytes rest : ℕ) → number ≤ 100000 → bytes ≤ 80 → rest ≤ 81 * (100001 - (number + 1))
-    → bytes + 1 + rest ≤ 81 * (100001 - number)
-line_more number bytes rest few short left = omega (arith, few, short, left)
+line_more : (limit : ℕ) (number bytes rest : ℕ) → number ≤ limit → bytes ≤ 80 → rest ≤ 81 * (limit + 1 - (number + 1))
+    → bytes + 1 + rest ≤ 81 * (limit + 1 - number)
+line_more limit number bytes rest few short left = omega (arith, few, short, left)
 
-one_more : (number : ℕ) → number ≤ 100000 → number + 1 ≤ 100001
-one_more number few = omega (arith, few)
+one_more : (limit : ℕ) (number : ℕ) → number ≤ limit → number + 1 ≤ limit + 1
+one_more limit number few = omega (arith, few)
 
 -- Lines from a number on that read as a trace.
-ended_lines : (number : ℕ) (lines : List (List ℕ)) (trace : List Line) → number ≤ 100001 → ReadsFrom number lines trace
-    → ended lines ≤ 81 * (100001 - number)
-ended_lines number [] trace few reads = omega arith
-ended_lines number (line ∷ lines) trace few reads =
-    line_more number (length line) (ended lines) reads.1 reads.2
-    (ended_lines (number + 1) lines reads.0 (one_more number reads.1) reads.4)
+ended_lines : (limit : ℕ) (number : ℕ) (lines : List (List ℕ)) (trace : List Line) → number ≤ limit + 1 → ReadsFrom limit number lines trace
+    → ended lines ≤ 81 * (limit + 1 - number)
+ended_lines limit number [] trace few reads = omega arith
+ended_lines limit number (line ∷ lines) trace few reads =
+    line_more limit number (length line) (ended lines) reads.1 reads.2
+    (ended_lines limit (number + 1) lines reads.0 (one_more limit number reads.1) reads.4)
 
--- All lines are at most 100000, and the last end is not part of the text.
-short_by : (bytes all lines : ℕ) → all ≡ bytes + 1 → all ≤ lines + 1 → lines ≤ 81 * (100001 - 1) → bytes ≤ 8100000
-short_by bytes all lines parts without few = omega (arith, parts, without, few)
+-- All lines are at most as many as the limit, and the last end is not part of the text.
+short_by : (limit : ℕ) (bytes all lines : ℕ) → all ≡ bytes + 1 → all ≤ lines + 1 → lines ≤ 81 * (limit + 1 - 1) → bytes ≤ 81 * limit
+short_by limit bytes all lines parts without few = omega (arith, parts, without, few)
 
-pub reads_short : (text : List ℕ) (trace : Trace) → ReadsAs text trace → length text ≤ 8100000
-reads_short text trace reads =
-    short_by (length text) (ended (slice_split (λ byte. byte == 10) text)) (ended (lines_of text))
+pub reads_short : (limit : ℕ) (text : List ℕ) (trace : Trace) → ReadsAs limit text trace → length text ≤ 81 * limit
+reads_short limit text trace reads =
+    short_by limit (length text) (ended (slice_split (λ byte. byte == 10) text)) (ended (lines_of text))
     (ended_parts (λ byte. byte == 10) text) (ended_without (slice_split (λ byte. byte == 10) text))
-    (ended_lines 1 (lines_of text) trace.lines (omega arith) reads)
+    (ended_lines limit 1 (lines_of text) trace.lines (omega arith) reads)

@@ -49,17 +49,18 @@ IsReportRule = IsChoiceRule (codes "report") (codes "basic" ∷ codes "full" ∷
 abbrev pub named : Text → App
 named name = record { top = record (new_app name).top { has_version = true }; subs = [] }
 
--- The command line with its seven options.
+-- The command line with its eight options.
 abbrev pub line_with : Rule → Rule → App
 line_with policy report =
-    with_rule (with_rule (with_rule (with_rule (with_rule (with_rule (with_rule (named (codes "metarun"))
+    with_rule (with_rule (with_rule (with_rule (with_rule (with_rule (with_rule (with_rule (named (codes "metarun"))
     (number_rule (codes "workers") 1 8))
     (number_rule (codes "max-granules") 1 40960))
     (number_rule (codes "nodes") 1 64))
     addresses_rule)
     policy)
     (number_rule (codes "class-nodes") 0 16))
-    report
+    report)
+    (number_rule (codes "max-lines") 1 10000000)
 
 pub record IsCommandLine (app : App) : Type 0 where
   pub policy : Rule

@@ -35,10 +35,10 @@ failure_of_running run.OutOfMemory = OutOfMemory
 failure_of_running run.NoThread = NoThread
 failure_of_running (run.Unsettled opened gathered) = Unsettled opened gathered
 
--- A fault is one of the text's.
-abbrev pub Blames : List ℕ → Failure → Type 0
-Blames text (Fault fault) = HasFault text fault.line fault.kind
-Blames text _ = ⊤
+-- A fault is one of the text's, of so many lines at most.
+abbrev pub Blames : (limit : ℕ) → List ℕ → Failure → Type 0
+Blames limit text (Fault fault) = HasFault limit text fault.line fault.kind
+Blames limit text _ = ⊤
 
 -- No accounts were left open.
 abbrev pub IsSettled : Failure → Type 0

@@ -44,15 +44,15 @@ Outputs options before old (line ∷ lines) output new =
     × (output ≡ reply_line options.addresses line.number reply ++ report ++ rest)
     × Outputs options (before ++ reply ∷ []) mid lines rest new
 
--- The output is what a session with these options writes for the text: the text reads as a trace,
--- which is answered phase by phase, the lines of each in some order one run of the machine, each
+-- The output is what a session with these options writes for the text: the text reads as a trace of no
+-- more lines than the options allow, which is answered phase by phase, the lines of each in some order one run of the machine, each
 -- line by the worker whose turn it is, and a report by the totals of the state reached, with
 -- details where the options ask for them; with one worker the machine runs through all commands in
 -- their order from the empty state.
 pub record IsOutput (options : Options) (text output : List ℕ) : Type 0 where
   pub trace : Trace
   pub answers : List Answer
-  pub reads : ReadsAs text trace
+  pub reads : ReadsAs options.max_lines text trace
   pub own : IsReplay (limits_of options.settings) options.settings.workers trace.lines answers
   pub detailed : All (IsDetailed options.detail) answers
   pub output_is : output ≡ answers_text options.addresses options.detail options.settings answers

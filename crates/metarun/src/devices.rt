@@ -5,8 +5,13 @@ ghost use Rattle.std.specs.Io.KnownBytes.{Consumes, Appends, IsAtEnd};
 use std::alloc::{AllocError, Global};
 use std::io::{Read, Write};
 
-/// The most bytes that are read: one more than any trace without a fault has.
-pub const MOST_BYTES: usize = 8_100_001;
+/// Returns the most bytes that are read of a trace of at most so many lines: one more than any such
+/// trace without a fault has, whose lines have 80 bytes and a newline at most.
+pub fn most_bytes(lines: u32) -> usize
+    ensures { result ≡ 81 * lines + 1 }
+{
+    81 * lines as usize + 1
+}
 
 /// The bytes that are asked for at a time.
 const PIECE: usize = 8192;
@@ -31,18 +36,22 @@ impl From<AllocError> for ReadFault {
     }
 }
 
-/// Reads to the end of the input, but at most `MOST_BYTES` bytes.
-pub fn read_text<R: Read>(alloc: Global, input: &mut R) -> Result<Vec<u8>, ReadFault>
+/// Reads to the end of the input, but at most so many bytes.
+pub fn read_text<R: Read>(
+    alloc: Global,
+    input: &mut R,
+    most: usize,
+) -> Result<Vec<u8>, ReadFault>
     ensures bytes { IfOk result (λ text.
         Consumes (R.remaining input.old) (R.remaining input.new) text.items) }
-    ensures most { IfOk result (λ text. vec_len text ≤ MOST_BYTES) }
+    ensures most { IfOk result (λ text. vec_len text ≤ most) }
     ensures whole { IfOk result (λ text.
-        vec_len text < MOST_BYTES → IsAtEnd (R.remaining input.new)) }
+        vec_len text < most → IsAtEnd (R.remaining input.new)) }
 {
     let mut text = Vec::new(alloc);
     let mut piece = [0; PIECE];
-    while text.len() < MOST_BYTES {
-        let room = PIECE.min(MOST_BYTES - text.len());
+    while text.len() < most {
+        let room = PIECE.min(most - text.len());
         let Ok(count) = input.read(&mut piece[..room]) else {
             return Err(ReadFault::Device);
         };

@@ -7,12 +7,12 @@ ghost use Rattle.ms_trace.specs.Faults.{HasFault};
 ghost use Rattle.metarun.specs.Failure.{Blames, IsSettled};
 ghost use Rattle.metarun.specs.Session.{IsOutput, IsAnswered, IsBrokenOff, IsWhole};
 
-use crate::devices::{read_text, write_text};
+use crate::devices::{most_bytes, read_text, write_text};
 use crate::failure::Failure;
 use crate::options::Options;
 use ms_report::AnswerText;
 use ms_run::{NoGate, replay_into};
-use ms_trace::parse;
+use ms_trace::parse_within;
 use std::alloc::Global;
 use std::io::{Read, Write};
 use std::sync::Wait;
@@ -37,7 +37,7 @@ pub fn session<T: Threads + Wait + Sync, R: Read, W: Write, E: Write>(
         → IsAnswered options.now (R.remaining input.old) (R.remaining input.new)
         (W.contents output.old) (W.contents output.new) }
     ensures faulty { result ≡ 1 → IfSome (R.remaining input.old) (λ bytes. (line : ℕ)
-        × (kind : FaultKind) × HasFault bytes line kind) }
+        × (kind : FaultKind) × HasFault options.now.max_lines bytes line kind) }
     ensures untouched { (result ≡ 1) ⊎ (result ≡ 3)
         → Keeps (W.contents output.old) (W.contents output.new) }
     ensures failed { result ≡ 5
@@ -65,11 +65,11 @@ fn answer_to<T: Threads + Wait + Sync, R: Read>(
         × IsWhole (R.remaining input.old) (R.remaining input.new) bytes
         × IsOutput options.now bytes (string_bytes text)) }
     ensures err { IfErr result (λ failure. IfSome (R.remaining input.old)
-        (λ bytes. Blames bytes failure)) }
+        (λ bytes. Blames options.now.max_lines bytes failure)) }
     ensures settled { IfErr result IsSettled }
 {
-    let text = read_text(alloc, input)?;
-    let trace = parse(alloc, &text)?;
+    let text = read_text(alloc, input, most_bytes(options.max_lines))?;
+    let trace = parse_within(alloc, &text, options.max_lines)?;
     let (settings, detail) = (options.settings, options.detail);
     let mut answers = AnswerText::new(emptied(text), options.addresses, detail, settings);
     replay_into(rt, alloc, &trace, settings, detail, &NoGate, &mut answers)?;

@@ -9,7 +9,7 @@ use Rattle.ms_trace.specs.declared.fault.ParseFault.{ParseFault}
 use Rattle.ms_trace.specs.declared.fault.ParseFault.TheVariants.{OutOfMemory}
 use Rattle.ms_trace.specs.declared.trace.Command.{Command}
 use Rattle.ms_trace.specs.declared.trace.Line.{Line}
-use Rattle.ms_trace.specs.Grammar.{is_silent, lines_of, most_lines}
+use Rattle.ms_trace.specs.Grammar.{is_silent, lines_of}
 use Rattle.ms_trace.specs.Keeping.{AddsLine, BeginsSilently, BeginsWith, BlamesFirst, KeepsFirst}
 use Rattle.ms_trace.specs.Spelling.{spelling_of}
 use Rattle.ms_trace.proofs.CutLemmas.{first_in_front, position_from_first}
@@ -24,9 +24,9 @@ spelled_cut text rest command begins =
     rw begins.spelled (lines_of-line (spelling_of command) rest (spelling_is_clean command begins.valid))
 
 -- It is kept by adding that command under its number.
-pub spelled_first : (number : ℕ) (text rest : List ℕ) (command : Command) (old new : List Line) → number ≤ most_lines
-    → BeginsWith text command rest → AddsLine number command old new → KeepsFirst number text rest old new
-spelled_first number text rest command old new few begins added =
+pub spelled_first : (most : ℕ) (number : ℕ) (text rest : List ℕ) (command : Command) (old new : List Line) → number ≤ most
+    → BeginsWith text command rest → AddsLine number command old new → KeepsFirst most number text rest old new
+spelled_first most number text rest command old new few begins added =
     let line : List ℕ = spelling_of command in
     let shorter : length rest < length (line ++ 10 ∷ rest) = simp length-append (omega arith) in
     record {
@@ -34,7 +34,7 @@ spelled_first number text rest command old new few begins added =
       cut = spelled_cut text rest command begins;
       keeps = record {
         said = record { number = number; command = command } ∷ [];
-        faultless = no_fault_from_allowed number line (record {
+        faultless = no_fault_from_allowed most number line (record {
           few = few;
           short = spelling_is_short command begins.valid;
           says = inr (record { command = command; valid = begins.valid; spelled = refl });
@@ -46,9 +46,9 @@ spelled_first number text rest command old new few begins added =
     }
 
 -- Only want of memory can be blamed there.
-pub spelled_blames : (number : ℕ) (text rest : List ℕ) (command : Command) (fault : ParseFault)
-    → BeginsWith text command rest → fault ≡ OutOfMemory → BlamesFirst number text fault
-spelled_blames number text rest command fault begins e =
+pub spelled_blames : (most : ℕ) (number : ℕ) (text rest : List ℕ) (command : Command) (fault : ParseFault)
+    → BeginsWith text command rest → fault ≡ OutOfMemory → BlamesFirst most number text fault
+spelled_blames most number text rest command fault begins e =
     rw e (record {
       line = spelling_of command;
       after = lines_of rest;
@@ -57,14 +57,14 @@ spelled_blames number text rest command fault begins e =
     })
 
 -- A silent line is kept by adding nothing.
-pub silent_first : (number : ℕ) (text rest : List ℕ) (old : List Line) → number ≤ most_lines → BeginsSilently text rest
-    → KeepsFirst number text rest old old
-silent_first number text rest old few begins = record {
+pub silent_first : (most : ℕ) (number : ℕ) (text rest : List ℕ) (old : List Line) → number ≤ most → BeginsSilently text rest
+    → KeepsFirst most number text rest old old
+silent_first most number text rest old few begins = record {
   line = begins.line;
   cut = begins.cut;
   keeps = record {
     said = [];
-    faultless = no_fault_from_allowed number begins.line (record {
+    faultless = no_fault_from_allowed most number begins.line (record {
       few = few;
       short = begins.short;
       says = inl begins.silent;

@@ -2,7 +2,7 @@
 use Rattle.std.proofs.Common.{◌≡◌, ℕ, inl, inr, zero, suc, not, ◌&&◌, ◌+◌, ◌-◌, ◌^◌, ◌<◌, ◌≤◌, Bool, true, false, eqb}
 use Rattle.std.proofs.Common.{ltb, leb, List, [], ◌∷◌, ◌++◌, length, get_or, drop, replicate, refl, ◌∙◌, ap, arith}
 use Rattle.std.proofs.Common.{sym, subst, add-zero, add-one, append_assoc}
-use Rattle.std.proofs.lemmas.Bool.{and_parts, and_from, not-true, ltb-true, leb-true}
+use Rattle.std.proofs.lemmas.Bool.{and_parts, and_from, not-true, ltb-true, le-leb, leb-true}
 use Rattle.std.proofs.lemmas.Bool.Decides.{nat_tests}
 use Rattle.std.proofs.lemmas.Fmt.{digits_decimal}
 use Rattle.std.proofs.lemmas.List.Elements.{All-from_recursion}
@@ -19,7 +19,7 @@ use Rattle.ms_base.specs.declared.step.Step.TheVariants.{New, Alloc, Calloc, Wri
 use Rattle.ms_trace.specs.declared.trace.Command.{Command}
 use Rattle.ms_trace.specs.declared.trace.Command.TheVariants.{Step as Asks, Sync, Report}
 use Rattle.ms_trace.specs.declared.trace.Line.{Line}
-use Rattle.ms_trace.specs.Grammar.{kind_word, lines_of, without_empty_end, most_lines}
+use Rattle.ms_trace.specs.Grammar.{kind_word, lines_of, without_empty_end}
 use Rattle.ms_trace.specs.Spelling.{spelling_of, IsValid, ReadsFrom, rises_above, text_from}
 use Rattle.ms_trace.proofs.DigitLemmas.{own}
 use Rattle.ms_trace.proofs.SpellingLemmas.{spelling_is_short}
@@ -93,30 +93,30 @@ lines_of-line line text clean =
     ∙ line_first line (slice_split (λ byte. eqb byte 10) text) (some_part text)
 
 -- Empty lines before lines that read.
-gap_reads : (gap number : ℕ) (text : List ℕ) (trace : List Line) → number + gap ≤ most_lines
-    → ReadsFrom (number + gap) (lines_of text) trace → ReadsFrom number (lines_of (replicate gap 10 ++ text)) trace
-gap_reads zero number text trace few reads = rw add-zero at reads
-gap_reads (suc gap) number text trace few reads =
+gap_reads : (most : ℕ) (gap number : ℕ) (text : List ℕ) (trace : List Line) → number + gap ≤ most
+    → ReadsFrom most (number + gap) (lines_of text) trace → ReadsFrom most number (lines_of (replicate gap 10 ++ text)) trace
+gap_reads most zero number text trace few reads = rw add-zero at reads
+gap_reads most (suc gap) number text trace few reads =
     let place : number + suc gap ≡ number + 1 + gap = omega arith in
-    let later : ReadsFrom (number + 1) (lines_of (replicate gap 10 ++ text)) trace =
-    gap_reads gap (number + 1) text trace (omega arith) (rw place at reads) in
+    let later : ReadsFrom most (number + 1) (lines_of (replicate gap 10 ++ text)) trace =
+    gap_reads most gap (number + 1) text trace (omega arith) (rw place at reads) in
     rw (lines_of-line [] (replicate gap 10 ++ text) refl) (trace, omega arith, omega arith, inl (refl, refl), later)
 
 -- A printed trace reads as itself.
-pub printed_reads : (last : ℕ) (trace : List Line) → AllByRecursion (λ (line : Line). IsValid line.command) trace
-    → rises_above last trace ≡ true → ReadsFrom (last + 1) (lines_of (text_from (last + 1) trace)) trace
-printed_reads last [] valid rises = refl
-printed_reads last (line ∷ trace) (valid, others) rises =
-    let parts : ((ltb last line.number && leb line.number most_lines) ≡ true) × (rises_above line.number trace ≡ true) =
+pub printed_reads : (most : ℕ) (last : ℕ) (trace : List Line) → AllByRecursion (λ (line : Line). IsValid line.command) trace
+    → rises_above most last trace ≡ true → ReadsFrom most (last + 1) (lines_of (text_from (last + 1) trace)) trace
+printed_reads most last [] valid rises = refl
+printed_reads most last (line ∷ trace) (valid, others) rises =
+    let parts : ((ltb last line.number && leb line.number most) ≡ true) × (rises_above most line.number trace ≡ true) =
     and_parts _ _ rises in
-    let bounds : (ltb last line.number ≡ true) × (leb line.number most_lines ≡ true) = and_parts _ _ parts.0 in
+    let bounds : (ltb last line.number ≡ true) × (leb line.number most ≡ true) = and_parts _ _ parts.0 in
     let low : last < line.number = ltb-true _ _ bounds.0 in
-    let high : line.number ≤ most_lines = leb-true _ _ bounds.1 in
+    let high : line.number ≤ most = leb-true _ _ bounds.1 in
     let place : last + 1 + (line.number - (last + 1)) ≡ line.number = omega arith in
-    let later : ReadsFrom (line.number + 1) (lines_of (text_from (line.number + 1) trace)) trace =
-    printed_reads line.number trace others parts.1 in
+    let later : ReadsFrom most (line.number + 1) (lines_of (text_from (line.number + 1) trace)) trace =
+    printed_reads most line.number trace others parts.1 in
     let text : List ℕ = text_from (line.number + 1) trace in
-    let here : ReadsFrom line.number (lines_of (spelling_of line.command ++ 10 ∷ text)) (line ∷ trace) =
+    let here : ReadsFrom most line.number (lines_of (spelling_of line.command ++ 10 ∷ text)) (line ∷ trace) =
     rw (lines_of-line (spelling_of line.command) text (spelling_is_clean line.command valid)) (
       trace,
       high,
@@ -126,7 +126,7 @@ printed_reads last (line ∷ trace) (valid, others) rises =
     ) in
     let gap : ℕ = line.number - (last + 1) in
     rw (append_assoc (replicate gap 10) (spelling_of line.command) (10 ∷ text))
-    (gap_reads gap (last + 1) (spelling_of line.command ++ 10 ∷ text) (line ∷ trace) (rw place high) (rw place here))
+    (gap_reads most gap (last + 1) (spelling_of line.command ++ 10 ∷ text) (line ∷ trace) (rw place high) (rw place here))
 
 -- The lines left begin with the next one.
 drop_here : (items : List Line) (i : ℕ) (d : Line) → i < length items
@@ -148,28 +148,38 @@ line_printed items i last d text whole inside e =
     rw gap (joined text _ (spelling_of line.command) _ ∙ rw (drop_here items i d inside) at e)
 
 -- The lines left rise from that line's number on.
-pub rises_on : (items : List Line) (i last : ℕ) (d : Line) → i < length items → rises_above last (drop i items) ≡ true
-    → rises_above (get_or items i d).number (drop (i + 1) items) ≡ true
-rises_on items i last d inside rises =
-    let front : rises_above last (get_or items i d ∷ drop (i + 1) items) ≡ true =
+pub rises_on : (most : ℕ) (items : List Line) (i last : ℕ) (d : Line) → i < length items → rises_above most last (drop i items) ≡ true
+    → rises_above most (get_or items i d).number (drop (i + 1) items) ≡ true
+rises_on most items i last d inside rises =
+    let front : rises_above most last (get_or items i d ∷ drop (i + 1) items) ≡ true =
     rw (drop_here items i d inside) at rises in
     (and_parts _ _ front).1
 
 -- So that line's number is above the last one.
-pub rises_at : (items : List Line) (i last : ℕ) (line : Line) → i < length items → line ≡ get_or items i line
-    → rises_above last (drop i items) ≡ true → last < line.number
-rises_at items i last line inside is rises =
-    let front : rises_above last (get_or items i line ∷ drop (i + 1) items) ≡ true =
+pub rises_at : (most : ℕ) (items : List Line) (i last : ℕ) (line : Line) → i < length items → line ≡ get_or items i line
+    → rises_above most last (drop i items) ≡ true → last < line.number
+rises_at most items i last line inside is rises =
+    let front : rises_above most last (get_or items i line ∷ drop (i + 1) items) ≡ true =
     rw (drop_here items i line inside) at rises in
     subst (λ (line : Line). last < line.number) (sym is)
     (ltb-true last (get_or items i line).number (and_parts _ _ (and_parts _ _ front).0).0)
 
 -- A line whose number is above the last one, and not too great, leaves the question to those after
 -- it.
-pub rises_past : (items : List Line) (i last : ℕ) (d : Line) → i < length items → last < (get_or items i d).number
-    → (get_or items i d).number ≤ most_lines
-    → rises_above last (drop i items) ≡ rises_above (get_or items i d).number (drop (i + 1) items)
-rises_past items i last d inside low high =
+pub rises_past : (most : ℕ) (items : List Line) (i last : ℕ) (d : Line) → i < length items → last < (get_or items i d).number
+    → (get_or items i d).number ≤ most
+    → rises_above most last (drop i items) ≡ rises_above most (get_or items i d).number (drop (i + 1) items)
+rises_past most items i last d inside low high =
     let above : ltb last (get_or items i d).number ≡ true = grind (arith, nat_tests) in
-    let small : leb (get_or items i d).number most_lines ≡ true = grind (arith, nat_tests) in
+    let small : leb (get_or items i d).number most ≡ true = grind (arith, nat_tests) in
     rw (drop_here items i d inside, above, small) refl
+
+-- Numbers that rise within a limit rise within each greater one.
+pub rises_wider : (most wider last : ℕ) (items : List Line) → most ≤ wider → rises_above most last items ≡ true
+    → rises_above wider last items ≡ true
+rises_wider most wider last [] wide rises = refl
+rises_wider most wider last (line ∷ lines) wide rises =
+    let parts = and_parts _ _ rises in
+    let front = and_parts _ _ parts.0 in
+    and_from _ _ (and_from _ _ front.0 (le-leb line.number wider (omega (arith, leb-true line.number most front.1, wide))))
+    (rises_wider most wider line.number lines wide parts.1)

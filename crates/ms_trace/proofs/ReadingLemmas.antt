@@ -10,7 +10,7 @@ use Rattle.ms_trace.specs.declared.fault.ParseFault.{ParseFault}
 use Rattle.ms_trace.specs.declared.fault.ParseFault.TheVariants.{Trace, OutOfMemory}
 use Rattle.ms_trace.specs.declared.trace.Line.{Line}
 use Rattle.ms_trace.specs.Cutting.{parts_after, parts_of}
-use Rattle.ms_trace.specs.Grammar.{lines_of, without_empty_end, most_lines}
+use Rattle.ms_trace.specs.Grammar.{lines_of, without_empty_end}
 use Rattle.ms_trace.specs.Faults.{fault_of, HasFault, BlamesText}
 use Rattle.ms_trace.specs.Keeping.{BlamesLine, Keeps}
 use Rattle.ms_trace.specs.Spelling.{ReadsFrom}
@@ -66,67 +66,67 @@ says_more number line trace rest said (inr gives) =
       trace_is = ap (λ lines. lines ++ said) gives.trace_is;
     })
 
-reads_push : (number : ℕ) (before : List (List ℕ)) (line : List ℕ) (trace said : List Line)
-    → ReadsFrom number before trace → ReadsFrom (number + length before) (line ∷ []) said
-    → ReadsFrom number (before ++ line ∷ []) (trace ++ said)
-reads_push number [] line trace said e last = rw e (rw add-zero at last)
-reads_push number (first ∷ before) line trace said (rest, few, short, says, more) last =
+reads_push : (most : ℕ) (number : ℕ) (before : List (List ℕ)) (line : List ℕ) (trace said : List Line)
+    → ReadsFrom most number before trace → ReadsFrom most (number + length before) (line ∷ []) said
+    → ReadsFrom most number (before ++ line ∷ []) (trace ++ said)
+reads_push most number [] line trace said e last = rw e (rw add-zero at last)
+reads_push most number (first ∷ before) line trace said (rest, few, short, says, more) last =
     let place : number + suc (length before) ≡ number + 1 + length before = omega arith in (
       rest ++ said,
       few,
       short,
       says_more number first trace rest said says,
-      reads_push (number + 1) before line rest said more (rw place at last),
+      reads_push most (number + 1) before line rest said more (rw place at last),
     )
 
 -- Which lines of a text are left after so many, which read as that trace.
-pub record IsRead (text : List ℕ) (left : List (List ℕ)) (number : ℕ) (trace : List Line) : Type 0 where
+pub record IsRead (most : ℕ) (text : List ℕ) (left : List (List ℕ)) (number : ℕ) (trace : List Line) : Type 0 where
   pub before : List (List ℕ)
   pub lines_are : lines_of text ≡ before ++ left
   pub number_is : number ≡ length before
-  pub reads : ReadsFrom 1 before trace
+  pub reads : ReadsFrom most 1 before trace
 
 -- One line more.
-pub line_more : (text line : List ℕ) (left later : List (List ℕ)) (number : ℕ) (trace new : List Line)
-    → IsRead text left number trace → left ≡ line ∷ later → Keeps (number + 1) line trace new
-    → IsRead text later (number + 1) new
-line_more text line left later number trace new read cut keeps =
-    let allowed : IsAllowed (number + 1) line = allowed_from_no_fault (number + 1) line keeps.faultless in
+pub line_more : (most : ℕ) (text line : List ℕ) (left later : List (List ℕ)) (number : ℕ) (trace new : List Line)
+    → IsRead most text left number trace → left ≡ line ∷ later → Keeps most (number + 1) line trace new
+    → IsRead most text later (number + 1) new
+line_more most text line left later number trace new read cut keeps =
+    let allowed : IsAllowed most (number + 1) line = allowed_from_no_fault most (number + 1) line keeps.faultless in
     let place : 1 + length read.before ≡ number + 1 = omega (arith, read.number_is) in
-    let last : ReadsFrom (number + 1) (line ∷ []) keeps.said = ([], allowed.few, allowed.short, keeps.says, refl) in
+    let last : ReadsFrom most (number + 1) (line ∷ []) keeps.said = ([], allowed.few, allowed.short, keeps.says, refl) in
     record {
       before = read.before ++ line ∷ [];
       lines_are = read.lines_are ∙ ap (λ lines. read.before ++ lines) cut
           ∙ sym (append_assoc read.before (line ∷ []) later);
       number_is = simp length-append (omega (arith, read.number_is));
-      reads = rw keeps.new_is (reads_push 1 read.before line trace keeps.said read.reads (rw place last));
+      reads = rw keeps.new_is (reads_push most 1 read.before line trace keeps.said read.reads (rw place last));
     }
 
 -- A line that is kept is allowed, so its number is.
-pub kept_number : (number : ℕ) (line : List ℕ) (trace new : List Line) → Keeps number line trace new
-    → number ≤ most_lines
-kept_number number line trace new keeps = (allowed_from_no_fault number line keeps.faultless).few
+pub kept_number : (most : ℕ) (number : ℕ) (line : List ℕ) (trace new : List Line) → Keeps most number line trace new
+    → number ≤ most
+kept_number most number line trace new keeps = (allowed_from_no_fault most number line keeps.faultless).few
 
 -- A line with a fault is the first one.
-fault_here : (text line : List ℕ) (left after : List (List ℕ)) (number : ℕ) (trace : List Line) (kind : FaultKind)
-    → IsRead text left number trace → left ≡ line ∷ after →
-    fault_of (number + 1) line ≡ Some kind → HasFault text (number + 1) kind
-fault_here text line left after number trace kind read cut e = record {
+fault_here : (most : ℕ) (text line : List ℕ) (left after : List (List ℕ)) (number : ℕ) (trace : List Line) (kind : FaultKind)
+    → IsRead most text left number trace → left ≡ line ∷ after →
+    fault_of most (number + 1) line ≡ Some kind → HasFault most text (number + 1) kind
+fault_here most text line left after number trace kind read cut e = record {
   before = read.before;
   line = line;
   after = after;
   lines_are = read.lines_are ∙ ap (λ lines. read.before ++ lines) cut;
-  faultless = faultless_from_reads 1 read.before trace read.reads;
+  faultless = faultless_from_reads most 1 read.before trace read.reads;
   number_is = ap (λ n. n + 1) read.number_is;
   kind_is = e;
 }
 
-pub blames_text : (text line : List ℕ) (left after : List (List ℕ)) (number : ℕ) (trace : List Line)
-    (fault : ParseFault) → IsRead text left number trace → left ≡ line ∷ after → BlamesLine (number + 1) line fault
-    → BlamesText text fault
-blames_text text line left after number trace (Trace fault) read cut blames =
-    rw blames.0 (fault_here text line left after number trace fault.kind read cut blames.1)
-blames_text text line left after number trace OutOfMemory read cut blames = tt
+pub blames_text : (most : ℕ) (text line : List ℕ) (left after : List (List ℕ)) (number : ℕ) (trace : List Line)
+    (fault : ParseFault) → IsRead most text left number trace → left ≡ line ∷ after → BlamesLine most (number + 1) line fault
+    → BlamesText most text fault
+blames_text most text line left after number trace (Trace fault) read cut blames =
+    rw blames.0 (fault_here most text line left after number trace fault.kind read cut blames.1)
+blames_text most text line left after number trace OutOfMemory read cut blames = tt
 
 -- A text without bytes has no lines.
 no_lines : (text : List ℕ) → length text ≡ 0 → lines_of text ≡ []
@@ -139,23 +139,23 @@ pub last_left : (rest last : List ℕ) → length rest ≡ 0 → lines_of last �
 last_left rest last none alone = ap (λ lines. lines ++ lines_of last) (no_lines rest none) ∙ alone
 
 -- Where none is left, the text was read.
-all_read : (text : List ℕ) (left : List (List ℕ)) (number : ℕ) (trace : List Line) → IsRead text left number trace
-    → left ≡ [] → ReadsFrom 1 (lines_of text) trace
-all_read text left number trace read none =
+all_read : (most : ℕ) (text : List ℕ) (left : List (List ℕ)) (number : ℕ) (trace : List Line) → IsRead most text left number trace
+    → left ≡ [] → ReadsFrom most 1 (lines_of text) trace
+all_read most text left number trace read none =
     let whole : lines_of text ≡ read.before =
     read.lines_are ∙ ap (λ lines. read.before ++ lines) none ∙ append-nil read.before in
     rw whole read.reads
 
-pub read_whole : (text rest last : List ℕ) (number : ℕ) (trace : List Line)
-    → IsRead text (lines_of rest ++ lines_of last) number trace → length rest ≡ 0 → length last ≡ 0
-    → ReadsFrom 1 (lines_of text) trace
-read_whole text rest last number trace read none no_last =
-    all_read text _ number trace read
+pub read_whole : (most : ℕ) (text rest last : List ℕ) (number : ℕ) (trace : List Line)
+    → IsRead most text (lines_of rest ++ lines_of last) number trace → length rest ≡ 0 → length last ≡ 0
+    → ReadsFrom most 1 (lines_of text) trace
+read_whole most text rest last number trace read none no_last =
+    all_read most text _ number trace read
     (ap (λ lines. lines ++ lines_of last) (no_lines rest none) ∙ no_lines last no_last)
 
-pub read_last : (text rest last : List ℕ) (number : ℕ) (trace new : List Line)
-    → IsRead text (lines_of rest ++ lines_of last) number trace → length rest ≡ 0 → lines_of last ≡ last ∷ []
-    → Keeps (number + 1) last trace new → ReadsFrom 1 (lines_of text) new
-read_last text rest last number trace new read none alone keeps =
-    all_read text [] (number + 1) new
-    (line_more text last _ [] number trace new read (last_left rest last none alone) keeps) refl
+pub read_last : (most : ℕ) (text rest last : List ℕ) (number : ℕ) (trace new : List Line)
+    → IsRead most text (lines_of rest ++ lines_of last) number trace → length rest ≡ 0 → lines_of last ≡ last ∷ []
+    → Keeps most (number + 1) last trace new → ReadsFrom most 1 (lines_of text) new
+read_last most text rest last number trace new read none alone keeps =
+    all_read most text [] (number + 1) new
+    (line_more most text last _ [] number trace new read (last_left rest last none alone) keeps) refl

@@ -19,7 +19,7 @@ use Rattle.ms_trace.specs.declared.fault.FaultKind.TheVariants.{TooManyLines, Li
 use Rattle.ms_base.specs.declared.step.Step.TheVariants.{New, Alloc, Calloc, Write, Read, Free, Unload, Purge}
 use Rattle.ms_trace.specs.declared.trace.Command.{Command}
 use Rattle.ms_trace.specs.declared.trace.Command.TheVariants.{Step as Asks, Sync, Report}
-use Rattle.ms_trace.specs.Grammar.{kind_word, fields_of, is_silent, most_lines, most_bytes}
+use Rattle.ms_trace.specs.Grammar.{kind_word, fields_of, is_silent, most_bytes}
 use Rattle.ms_trace.specs.Faults.{fault_of, command_fault}
 use Rattle.ms_trace.specs.Spelling.{command_fields, spelling_of, IsValid}
 use Rattle.ms_trace.proofs.DigitLemmas.{value-decimal, decimal_has_no_space}
@@ -207,14 +207,14 @@ no_fault_form false false true fault e = (refl, refl, inl refl)
 no_fault_form false false false fault e = (refl, refl, inr e)
 
 -- A line without a fault is allowed, and silent or the spelling of a valid command.
-pub record IsAllowed (number : ℕ) (line : List ℕ) : Type 0 where
-  pub few : number ≤ most_lines
+pub record IsAllowed (most : ℕ) (number : ℕ) (line : List ℕ) : Type 0 where
+  pub few : number ≤ most
   pub short : length line ≤ most_bytes
   pub says : IsTrue (is_silent line) ⊎ IsSpelledLine line
 
-pub allowed_from_no_fault : (number : ℕ) (line : List ℕ) → fault_of number line ≡ None → IsAllowed number line
-allowed_from_no_fault number line e =
-    let parts : (ltb most_lines number ≡ false) × (ltb most_bytes (length line) ≡ false)
+pub allowed_from_no_fault : (most : ℕ) (number : ℕ) (line : List ℕ) → fault_of most number line ≡ None → IsAllowed most number line
+allowed_from_no_fault most number line e =
+    let parts : (ltb most number ≡ false) × (ltb most_bytes (length line) ≡ false)
     × ((is_silent line ≡ true) ⊎ (command_fault (fields_of line) ≡ None)) =
     no_fault_form _ _ _ _ e in
     record {
@@ -232,8 +232,8 @@ no_fault_back many long true fault few short (inr e) = rw few (rw short refl)
 no_fault_back many long false fault few short (inr e) = rw few (rw short e)
 
 -- And such a line has no fault.
-pub no_fault_from_allowed : (number : ℕ) (line : List ℕ) → IsAllowed number line → fault_of number line ≡ None
-no_fault_from_allowed number line h =
+pub no_fault_from_allowed : (most : ℕ) (number : ℕ) (line : List ℕ) → IsAllowed most number line → fault_of most number line ≡ None
+no_fault_from_allowed most number line h =
     no_fault_back _ _ _ _ (grind (arith, nat_tests, h.few)) (grind (arith, nat_tests, h.short))
     (⊎_elim (λ silent. inl silent)
     (λ spelled. inr

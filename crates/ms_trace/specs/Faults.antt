@@ -11,7 +11,7 @@ use Rattle.ms_trace.specs.declared.fault.FaultKind.TheVariants.{TooManyLines, Li
 use Rattle.ms_trace.specs.declared.fault.FaultKind.TheVariants.{BadKind, BadNumber, NumberTooLarge}
 use Rattle.ms_trace.specs.declared.fault.ParseFault.{ParseFault}
 use Rattle.ms_trace.specs.declared.fault.ParseFault.TheVariants.{Trace, OutOfMemory}
-use Rattle.ms_trace.specs.Grammar.{Field, kind_field, number_field, kind_word, commands, most_lines, most_bytes}
+use Rattle.ms_trace.specs.Grammar.{Field, kind_field, number_field, kind_word, commands, most_bytes}
 use Rattle.ms_trace.specs.Grammar.{lines_of, fields_of, is_silent}
 
 -- A number is the digit 0, or a digit 1 to 9 followed by digits.
@@ -53,30 +53,30 @@ command_fault [] = Some UnknownCommand
 command_fault (word ∷ rest) = after_word_fault (lookup (bytes_eq word) commands) rest
 
 -- What is wrong with a line of that number: the first check that fails.
-abbrev pub fault_of : ℕ → List ℕ → Option FaultKind
-fault_of number line =
-    if nat_lt most_lines number then Some TooManyLines
+abbrev pub fault_of : (most : ℕ) → ℕ → List ℕ → Option FaultKind
+fault_of most number line =
+    if nat_lt most number then Some TooManyLines
     else if nat_lt most_bytes (length line) then Some LineTooLong
     else if is_silent line then None
     else command_fault (fields_of line)
 
 -- No line has a fault, the first having that number.
-abbrev pub AreFaultless : ℕ → List (List ℕ) → Type 0
-AreFaultless number [] = ⊤
-AreFaultless number (line ∷ lines) = (fault_of number line ≡ None) × AreFaultless (number + 1) lines
+abbrev pub AreFaultless : (most : ℕ) → ℕ → List (List ℕ) → Type 0
+AreFaultless most number [] = ⊤
+AreFaultless most number (line ∷ lines) = (fault_of most number line ≡ None) × AreFaultless most (number + 1) lines
 
 -- The text has a fault: its line of that number is the first with a failing check, and the kind is
 -- its first failing check.
-pub record HasFault (text : List ℕ) (number : ℕ) (kind : FaultKind) : Type 0 where
+pub record HasFault (most : ℕ) (text : List ℕ) (number : ℕ) (kind : FaultKind) : Type 0 where
   pub before : List (List ℕ)
   pub line : List ℕ
   pub after : List (List ℕ)
   pub lines_are : lines_of text ≡ before ++ line ∷ after
-  pub faultless : AreFaultless 1 before
+  pub faultless : AreFaultless most 1 before
   pub number_is : number ≡ length before + 1
-  pub kind_is : fault_of number line ≡ Some kind
+  pub kind_is : fault_of most number line ≡ Some kind
 
 -- What reading answers is a fault of the text, or want of memory.
-abbrev pub BlamesText : List ℕ → ParseFault → Type 0
-BlamesText text (Trace fault) = HasFault text fault.line fault.kind
-BlamesText text OutOfMemory = ⊤
+abbrev pub BlamesText : (most : ℕ) → List ℕ → ParseFault → Type 0
+BlamesText most text (Trace fault) = HasFault most text fault.line fault.kind
+BlamesText most text OutOfMemory = ⊤

@@ -43,9 +43,16 @@ commands =
     ∷ (codes "report", [])
     ∷ []
 
--- A trace has at most so many lines, and a line so many bytes.
+-- A trace has at most so many lines where nothing else is asked. Each definition takes its limit as an
+-- argument, `most`, of which this is one.
 abbrev pub most_lines : ℕ
 most_lines = 100000
+
+-- No line has a greater number in memory.
+abbrev pub any_line : ℕ
+any_line = 2 ^ 32 - 1
+
+-- A line has at most so many bytes.
 
 abbrev pub most_bytes : ℕ
 most_bytes = 80

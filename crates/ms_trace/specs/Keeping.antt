@@ -36,9 +36,9 @@ pub record BeginsSilently (text rest : List ℕ) : Type 0 where
   pub shorter : length rest < length text
 
 -- A line without a fault is kept: what it says, nothing or one command, follows the lines so far.
-pub record Keeps (number : ℕ) (line : List ℕ) (old new : List Line) : Type 0 where
+pub record Keeps (most : ℕ) (number : ℕ) (line : List ℕ) (old new : List Line) : Type 0 where
   pub said : List Line
-  pub faultless : fault_of number line ≡ None
+  pub faultless : fault_of most number line ≡ None
   pub says : (IsTrue (is_silent line) × (said ≡ [])) ⊎ Gives number line said []
   pub new_is : new ≡ old ++ said
 
@@ -47,20 +47,20 @@ abbrev pub AddsLine : ℕ → Command → List Line → List Line → Type 0
 AddsLine number command old new = new ≡ old ++ record { number = number; command = command } ∷ []
 
 -- The first line of a text is kept, and what stands after it is left.
-pub record KeepsFirst (number : ℕ) (text rest : List ℕ) (old new : List Line) : Type 0 where
+pub record KeepsFirst (most : ℕ) (number : ℕ) (text rest : List ℕ) (old new : List Line) : Type 0 where
   pub line : List ℕ
   pub cut : lines_of text ≡ line ∷ lines_of rest
-  pub keeps : Keeps number line old new
+  pub keeps : Keeps most number line old new
   pub shorter : length rest < length text
 
 -- What is blamed is the line's fault, or want of memory.
-abbrev pub BlamesLine : ℕ → List ℕ → ParseFault → Type 0
-BlamesLine number line (Trace fault) = (fault.line ≡ number) × (fault_of number line ≡ Some fault.kind)
-BlamesLine number line OutOfMemory = ⊤
+abbrev pub BlamesLine : (most : ℕ) → ℕ → List ℕ → ParseFault → Type 0
+BlamesLine most number line (Trace fault) = (fault.line ≡ number) × (fault_of most number line ≡ Some fault.kind)
+BlamesLine most number line OutOfMemory = ⊤
 
 -- What is blamed is the fault of the first line of a text, or want of memory.
-pub record BlamesFirst (number : ℕ) (text : List ℕ) (fault : ParseFault) : Type 0 where
+pub record BlamesFirst (most : ℕ) (number : ℕ) (text : List ℕ) (fault : ParseFault) : Type 0 where
   pub line : List ℕ
   pub after : List (List ℕ)
   pub cut : lines_of text ≡ line ∷ after
-  pub blames : BlamesLine number line fault
+  pub blames : BlamesLine most number line fault

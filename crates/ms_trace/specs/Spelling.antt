@@ -9,7 +9,7 @@ use Rattle.ms_trace.specs.declared.trace.Command.{Command}
 use Rattle.ms_trace.specs.declared.trace.Command.TheVariants.{Step as Asks, Sync, Report}
 use Rattle.ms_trace.specs.declared.trace.Line.{Line}
 use Rattle.ms_trace.specs.declared.trace.Trace.{Trace}
-use Rattle.ms_trace.specs.Grammar.{kind_word, lines_of, is_silent, most_lines, most_bytes}
+use Rattle.ms_trace.specs.Grammar.{kind_word, lines_of, is_silent, most_bytes}
 
 -- The fields of a step, its word first, numbers in decimal without leading zeros.
 abbrev pub step_fields : Step → List (List ℕ)
@@ -60,21 +60,21 @@ pub record Gives (number : ℕ) (line : List ℕ) (trace rest : List Line) : Typ
 
 -- Lines from a number on read as a trace: none is too long, and each is blank, a comment, or the
 -- spelling of a valid command.
-abbrev pub ReadsFrom : ℕ → List (List ℕ) → List Line → Type 0
-ReadsFrom number [] trace = trace ≡ []
-ReadsFrom number (line ∷ lines) trace =
-    (rest : List Line) × (number ≤ most_lines) × (length line ≤ most_bytes)
-    × ((IsTrue (is_silent line) × (trace ≡ rest)) ⊎ Gives number line trace rest) × ReadsFrom (number + 1) lines rest
+abbrev pub ReadsFrom : (most : ℕ) → ℕ → List (List ℕ) → List Line → Type 0
+ReadsFrom most number [] trace = trace ≡ []
+ReadsFrom most number (line ∷ lines) trace =
+    (rest : List Line) × (number ≤ most) × (length line ≤ most_bytes)
+    × ((IsTrue (is_silent line) × (trace ≡ rest)) ⊎ Gives number line trace rest) × ReadsFrom most (number + 1) lines rest
 
 -- The text reads as the trace: its command lines with their numbers, which count from 1.
-abbrev pub ReadsAs : List ℕ → Trace → Type 0
-ReadsAs text trace = ReadsFrom 1 (lines_of text) trace.lines
+abbrev pub ReadsAs : (most : ℕ) → List ℕ → Trace → Type 0
+ReadsAs most text trace = ReadsFrom most 1 (lines_of text) trace.lines
 
 -- Line numbers rise from above a number up to the greatest that a line may have.
-abbrev pub rises_above : ℕ → List Line → Bool
-rises_above number [] = true
-rises_above number (line ∷ lines) =
-    nat_lt number line.number && nat_le line.number most_lines && rises_above line.number lines
+abbrev pub rises_above : (most : ℕ) → ℕ → List Line → Bool
+rises_above most number [] = true
+rises_above most number (line ∷ lines) =
+    nat_lt number line.number && nat_le line.number most && rises_above most line.number lines
 
 -- The lines of a trace, from a number on, as a text: empty lines in the gaps, each command on the
 -- line of its number.

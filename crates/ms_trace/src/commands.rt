@@ -13,20 +13,20 @@ ghost use Rattle.ms_trace.specs.Spelling.{IsValid, spelling_of};
 use crate::cutting::{cut_field, four_fields, no_fields, one_field, three_fields, two_fields};
 use crate::fault::FaultKind;
 use crate::fields::{read_block, read_kind, read_loader, read_word};
-use crate::trace::{Command, MOST_LINES};
+use crate::trace::Command;
 use ms_base::Step;
 
 /// The greatest length of a line in bytes.
 const MOST_BYTES: usize = 80;
 
-/// Reads the line of that number: the command that it gives, if it isn't silent.
-pub(crate) fn read_line(number: u32, line: &[u8]) -> Result<Option<Command>, FaultKind>
-    ensures fault { result_err result ≡ fault_of number line.now }
+/// Reads the line of that number, of at most `most`: the command that it gives, if it isn't silent.
+pub(crate) fn read_line(most: u32, number: u32, line: &[u8]) -> Result<Option<Command>, FaultKind>
+    ensures fault { result_err result ≡ fault_of most number line.now }
     ensures silent { IfOk result (λ said. IsNone said → IsTrue (is_silent line.now)) }
     ensures spelled { IfOk result (λ said. IfSome said (λ command. line.now ≡ spelling_of command)) }
     ensures valid { IfOk result (λ said. IfSome said IsValid) }
 {
-    if number > MOST_LINES {
+    if number > most {
         return Err(FaultKind::TooManyLines);
     }
     if line.len() > MOST_BYTES {

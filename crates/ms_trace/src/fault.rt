@@ -6,7 +6,7 @@ use thiserror::Error;
 /// one, so the last three come as the fields do. This project's choice. It is told by its name.
 #[derive(Clone, Copy, Debug, PartialEq, Eq)]
 pub enum FaultKind {
-    /// The line's number is 100001.
+    /// The line's number is greater than the limit, which is 100000 where nothing else is asked.
     TooManyLines,
     /// The line has more than 80 bytes, the newline not counted; comments too.
     LineTooLong,
@@ -32,7 +32,7 @@ impl Display for FaultKind {
 #[derive(Clone, Copy, Debug, Error)]
 #[error("line {line}: {kind}")]
 pub struct TraceFault {
-    /// The line's number, 1 to 100001.
+    /// The line's number, from 1 to one more than the limit.
     pub line: u32,
     /// Its first failing check.
     pub kind: FaultKind,

@@ -22,7 +22,7 @@ pub fn one_fault()
     ensures { OneFault }
 {}
 
-/// The numbers of the lines that a text reads as rise, from 1 to 100000 at most.
+/// The numbers of the lines that a text reads as rise, from 1 to the limit at most.
 pub fn numbers_rise()
     ensures { NumbersRise }
 {}

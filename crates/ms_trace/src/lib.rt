@@ -23,5 +23,5 @@ mod trace;
 
 pub use fault::{FaultKind, ParseFault, TraceFault};
 pub use printing::print;
-pub use reading::parse;
+pub use reading::{parse, parse_within};
 pub use trace::{Command, Line, Lines, Trace};

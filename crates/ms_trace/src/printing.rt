@@ -1,7 +1,7 @@
 //! Printing a trace as a text that reads as it.
-ghost use Rattle.std.specs.Prelude.{◌≡◌, ◌++◌, ◌∷◌, [], IfOk, OnOk, IsTrue, codes, decimal, replicate};
+ghost use Rattle.std.specs.Prelude.{◌≡◌, ℕ, ◌++◌, ◌∷◌, [], IfOk, OnOk, IsTrue, codes, decimal, replicate};
 ghost use Rattle.std.specs.List.{join_with_byte};
-ghost use Rattle.ms_trace.specs.Grammar.{kind_word};
+ghost use Rattle.ms_trace.specs.Grammar.{any_line, kind_word};
 ghost use Rattle.ms_trace.specs.Spelling.{IsValid, IsValidStep, ReadsAs, rises_above, spelling_of, step_fields};
 ghost use Rattle.ms_trace.specs.Spelling.{text_of};
 
@@ -10,13 +10,15 @@ use itoa::Buffer;
 use ms_base::{Kind, Step};
 use std::alloc::{AllocError, Allocator};
 
-/// Prints a trace whose line numbers rise from 1 to 100000: each command with single spaces on the
-/// line of its number, empty lines in the gaps, and a newline after the last. The trace without
-/// commands is printed as no bytes. This project's choice.
+/// Prints a trace whose line numbers rise from 1 on: each command with single spaces on the line of
+/// its number, empty lines in the gaps, and a newline after the last. The trace without commands is
+/// printed as no bytes. What is printed reads as the trace under each limit that its numbers keep.
+/// This project's choice.
 pub fn print<A: Allocator>(alloc: A, trace: &Trace) -> Result<Vec<u8, A>, AllocError>
-    requires { IsTrue (rises_above 0 trace.now.lines) }
+    requires { IsTrue (rises_above any_line 0 trace.now.lines) }
     ensures text { IfOk result (λ text. text.items ≡ text_of trace.now) }
-    ensures reads { IfOk result (λ text. ReadsAs text.items trace.now) }
+    ensures reads { IfOk result (λ text. (most : ℕ) → IsTrue (rises_above most 0 trace.now.lines)
+        → ReadsAs most text.items trace.now) }
 {
     let mut text = Vec::new(alloc);
     let mut last: u32 = 0;

@@ -1,11 +1,12 @@
 //! A trace: commands under the numbers of their lines.
-ghost use Rattle.std.specs.Prelude.{◌≡◌};
+ghost use Rattle.std.specs.Prelude.{◌≡◌, IsTrue};
+ghost use Rattle.ms_trace.specs.Grammar.{any_line, most_lines};
 ghost use Rattle.ms_trace.specs.Spelling.{rises_above};
 
 use ms_base::Step;
 use std::marker::Model;
 
-/// The greatest number of a line.
+/// The greatest number of a line where nothing else is asked.
 pub(crate) const MOST_LINES: u32 = 100_000;
 
 /// What a line asks: a step of the machine, a point where all workers meet, or a report. This
@@ -25,8 +26,8 @@ enum Asks {
     Report,
 }
 
-/// A command and the number of its line, which counts from 1, blank lines and comments included: 1
-/// to 100000 where a text was read. Takes 32 bytes.
+/// A command and the number of its line, which counts from 1, blank lines and comments included. Takes
+/// 32 bytes.
 #[derive(Clone, Copy, Debug, PartialEq, Eq)]
 pub struct Line {
     number: u32,
@@ -131,14 +132,23 @@ pub struct Trace {
 }
 
 impl Trace {
-    /// Tells whether the line numbers rise from 1 to 100000, so that the trace may be printed.
+    /// Returns whether the line numbers rise from 1 to 100000.
     pub fn rises(&self) -> bool
-        ensures { result ≡ rises_above 0 self.now.lines }
+        ensures rises { result ≡ rises_above most_lines 0 self.now.lines }
+        ensures printable { IsTrue result → IsTrue (rises_above any_line 0 self.now.lines) }
+    {
+        self.rises_within(MOST_LINES)
+    }
+
+    /// Returns whether the line numbers rise from 1 to `most`. A trace whose numbers rise may be printed.
+    pub fn rises_within(&self, most: u32) -> bool
+        ensures rises { result ≡ rises_above most 0 self.now.lines }
+        ensures printable { IsTrue result → IsTrue (rises_above any_line 0 self.now.lines) }
     {
         let mut last: u32 = 0;
         for line in self.lines.as_slice() {
             let number = line.number();
-            if number <= last || number > MOST_LINES {
+            if number <= last || number > most {
                 return false;
             }
             last = number;

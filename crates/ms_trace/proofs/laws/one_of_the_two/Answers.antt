@@ -5,10 +5,10 @@ use Rattle.ms_trace.proofs.TraceLemmas.{Reads, reads_from_faultless, faultless_o
 use Rattle.ms_trace.proofs.laws.one_of_the_two.Goals as goal
 
 pub returns : goal.returns
-returns c = λ text.
+returns c = λ most text.
     ⊎_elim
     (λ faultless.
-    let found : Reads 1 (lines_of text) = reads_from_faultless 1 (lines_of text) faultless in
+    let found : Reads most 1 (lines_of text) = reads_from_faultless most 1 (lines_of text) faultless in
     inl (record { lines = found.trace }, found.reads))
     (λ first. inr (
       _,
@@ -23,4 +23,4 @@ returns c = λ text.
         kind_is = first.kind_is;
       },
     ))
-    (faultless_or_first 1 (lines_of text))
+    (faultless_or_first most 1 (lines_of text))

@@ -5,5 +5,5 @@ use Rattle.ms_trace.proofs.laws.one_trace.Goals as goal
 
 pub returns : goal.returns
 returns c =
-    λ text one other reads others. ap (λ lines. record { lines = lines })
-    (one_trace 1 (lines_of text) one.lines other.lines reads others)
+    λ most text one other reads others. ap (λ lines. record { lines = lines })
+    (one_trace most 1 (lines_of text) one.lines other.lines reads others)

@@ -6,5 +6,5 @@ use Rattle.ms_trace.proofs.laws.printed_reads.Goals as goal
 
 pub returns : goal.returns
 returns c =
-    λ trace valid rises. printed_reads 0 trace.lines
+    λ most trace valid rises. printed_reads most 0 trace.lines
     (recursion_from_All (λ (line : Line). IsValid line.command) trace.lines valid) rises

@@ -5,6 +5,7 @@ use Rattle.std.proofs.lemmas.List.Elements.{All-more, recursion_from_All}
 use Rattle.std.proofs.lemmas.Result.{IfOk-from_err}
 use Rattle.std.specs.List.{All}
 use Rattle.ms_trace.specs.declared.trace.Line.{Line}
+use Rattle.ms_trace.specs.Grammar.{any_line}
 use Rattle.ms_trace.specs.Spelling.{IsValid, text_from}
 use Rattle.ms_trace.proofs.PrintingLemmas.{line_printed, rises_at, rises_on, printed_reads}
 use Rattle.ms_trace.proofs.printing.print.Goals as goal
@@ -17,7 +18,7 @@ loop-line-preserved g c =
           (line_printed items c.loop-line.line-index c.loop-line.last _ c.loop-line.text.items
           (text_from 1 items) c.loop-line-test.true c.loop-line.invariant.printed);
       rises = rw (c.number-number.ensures, c.line-item.is)
-          (rises_on items c.loop-line.line-index c.loop-line.last _ c.loop-line-test.true c.loop-line.invariant.rises);
+          (rises_on any_line items c.loop-line.line-index c.loop-line.last _ c.loop-line-test.true c.loop-line.invariant.rises);
       valid = All-more (λ (line : Line). IsValid line.command) items
           c.loop-line.line-index _ c.loop-line-test.true c.loop-line.invariant.valid
           (subst IsValid (c.command.ensures ∙ ap (λ (line : Line). line.command) c.line-item.is) c.print_line.ensures.valid);
@@ -29,7 +30,7 @@ overflow_sub-number g c =
     omega (
       arith,
       c.number-number.ensures,
-      rises_at c.as_slice-line-items.result.now c.loop-line.line-index c.loop-line.last c.line-item.result
+      rises_at any_line c.as_slice-line-items.result.now c.loop-line.line-index c.loop-line.last c.line-item.result
           c.loop-line-test.true c.line-item.is c.loop-line.invariant.rises,
     )
 
@@ -38,7 +39,7 @@ overflow_sub-number-in-loop-line g c =
     omega (
       arith,
       c.number-number.ensures,
-      rises_at c.as_slice-line-items.result.now c.loop-line.line-index c.loop-line.last c.line-item.result
+      rises_at any_line c.as_slice-line-items.result.now c.loop-line.line-index c.loop-line.last c.line-item.result
           c.loop-line-test.true c.line-item.is c.loop-line.invariant.rises,
     )
 
@@ -64,7 +65,7 @@ returns-clause-reads g c =
     let text : c.loop-line.text.items ≡ text_from 1 items =
     sym (append-nil c.loop-line.text.items) ∙ rw none at c.loop-line.invariant.printed in
     let valid : All (λ (line : Line). IsValid line.command) items = rw all at c.loop-line.invariant.valid in
-    rw text
+    λ most rises. rw text
     (rw (sym c.as_slice-line-items.ensures)
-    (printed_reads 0 items (recursion_from_All (λ (line : Line). IsValid line.command) items valid)
-    (rw c.as_slice-line-items.ensures c.requires)))
+    (printed_reads most 0 items (recursion_from_All (λ (line : Line). IsValid line.command) items valid)
+    (rw c.as_slice-line-items.ensures rises)))

@@ -33,17 +33,17 @@ returns-3-clause-kept g c =
 
 pub returns-clause-kept : goal.returns-clause-kept
 returns-clause-kept g c =
-    spelled_first c.args.number c.args.text.now c.in-Some.rest.now c.in-Some.command c.args.lines.now.items _
-    c.if-number-le-MOST_LINES.true c.in-Some.ensures c.in_ok-add.ensures.added
+    spelled_first c.args.most c.args.number c.args.text.now c.in-Some.rest.now c.in-Some.command c.args.lines.now.items _
+    c.if-number-most.true c.in-Some.ensures c.in_ok-add.ensures.added
 
 pub returns-2-clause-kept : goal.returns-2-clause-kept
 returns-2-clause-kept g c =
-    silent_first c.args.number c.args.text.now c.in-Some-cut_silent.rest.now c.args.lines.now.items
-    c.if-number-le-MOST_LINES-2.true c.in-Some-cut_silent.ensures
+    silent_first c.args.most c.args.number c.args.text.now c.in-Some-cut_silent.rest.now c.args.lines.now.items
+    c.if-number-most-2.true c.in-Some-cut_silent.ensures
 
 pub returns-in_err-add-clause-fault : goal.returns-in_err-add-clause-fault
 returns-in_err-add-clause-fault g c =
     let p = err_from_is_err_and c.from_residual.result c.from_residual.ensures.1 in
     rw (p.1, p.2)
-    (spelled_blames c.args.number c.args.text.now c.in-Some.rest.now c.in-Some.command _ c.in-Some.ensures
+    (spelled_blames c.args.most c.args.number c.args.text.now c.in-Some.rest.now c.in-Some.command _ c.in-Some.ensures
     c.in_err-add.ensures.fault)

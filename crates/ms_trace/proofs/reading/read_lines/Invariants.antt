@@ -6,8 +6,8 @@ use Rattle.ms_trace.proofs.reading.read_lines.Given as goal
 
 abbrev pub invariant-loop-rest : goal.invariant-loop-rest
 invariant-loop-rest g l = record {
-  read : IsRead l.fn.text (lines_of l.rest ++ lines_of l.last) l.number l.lines.items;
-  few : l.number ≤ 100000;
+  read : IsRead l.fn.most l.fn.text (lines_of l.rest ++ lines_of l.last) l.number l.lines.items;
+  few : l.number ≤ l.fn.most;
 }
 
 abbrev pub decreases-loop-rest : goal.decreases-loop-rest
