@@ -2,7 +2,7 @@
 
 In a file of rows/ a line without indent is a test's name; the indented lines below it are its commands in their order.
 Two spaces or more stand before the answer. Behind `report` stand the numbers that the report must have, by their
-labels, with `class` before those of the class space; or, where it is a full one, settings, as `setting nodes 64`, and
+labels, with `class` before those of the class space, and what is held and free of a level, as `level 10 3 1`; or, where it is a full one, settings, as `setting nodes 64`, and
 amounts of a usage, each with its words, size and share: `usage used 10 0.0 KB 0.1`, with `class` or `both` before it,
 and refused lines, as `refused NoBlock 2`; peaks, as `peak used 10`, or with the size, `peak used 10 0.0 KB`; the sums
 of a kind, its loaders first, as `kind hidden 1 1 128 128 10 10 0 0`, of what a loader holds in a space,
@@ -71,10 +71,14 @@ def expect_numbers(report, told):
         if "usage " in fact:
             expect_amount(report, fact)
             continue
+        of_class = fact.startswith("class ")
+        space = report.spaces[1 if of_class else 0]
+        if fact.removeprefix("class ").startswith("level "):
+            *_, level, held, free = fact.split()
+            expect(space.levels[int(level)][1:] == (int(held), int(free)), fact, "is", space.levels)
+            continue
         label, _, number = fact.rpartition(" ")
-        of_class = label.startswith("class ")
-        numbers = report.spaces[1 if of_class else 0].numbers
-        found = numbers[label.removeprefix("class ")]
+        found = space.numbers[label.removeprefix("class ")]
         expect(found == int(number), label, "is", found, "and not", number)
 
 

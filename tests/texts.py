@@ -10,6 +10,16 @@ from grammar import FIELDS, KINDS, commands_of, fault_of, lines_of
 from outputs import answers_of
 from program import MEGABYTE
 
+USED_ANEW = b"""new 1 standard
+new 1 boot
+alloc 1 1 1
+alloc 1 1 5
+read 1 1 1
+unload 1
+read 1 1 0
+new 1 boot
+read 1 1 0
+"""
 ALL_COMMANDS = b"""# all commands
 new 1 standard
 alloc 1 1 10
@@ -76,18 +86,18 @@ def expect_read(ended, text):
     return False
 
 
-def reads_each_beginning(bench):
-    """Each beginning of a trace with all commands; its whole lines are answered as in the whole trace."""
-    whole = bench.run((), ALL_COMMANDS)
+def reads_each_beginning(bench, trace):
+    """Each beginning of a trace; its whole lines are answered as in the whole trace."""
+    whole = bench.run((), trace)
     expect_ended(whole, 0)
     faults = 0
-    for size in range(len(ALL_COMMANDS) + 1):
-        text = ALL_COMMANDS[:size]
+    for size in range(len(trace) + 1):
+        text = trace[:size]
         ended = bench.run((), text)
         faults += expect_read(ended, text)
         if ended.status == 0 and (text == b"" or text.endswith(b"\n")):
             expect(whole.output.startswith(ended.output), first_difference(ended.output, whole.output))
-    return f"{len(ALL_COMMANDS) + 1} texts, {faults} of them faulty"
+    return f"{len(trace) + 1} texts, {faults} of them faulty"
 
 
 def flipped(chance, text):
@@ -208,7 +218,8 @@ def reads_an_endless_text(bench, piece, fault):
 
 
 def tests():
-    yield Test("each beginning of a trace with all commands is read", reads_each_beginning)
+    yield Test("each beginning of a trace with all commands is read", reads_each_beginning, (ALL_COMMANDS,))
+    yield Test("each beginning of a trace of names used anew is read", reads_each_beginning, (USED_ANEW,))
     for piece in range(PIECES):
         yield Test(f"malformed texts are read, part {piece + 1} of {PIECES}", reads_malformed_texts, (piece,))
     yield Test("the longest text is read, and a longer one refused", reads_the_longest_text)

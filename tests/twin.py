@@ -12,6 +12,8 @@ from workbench import ROOT
 TWIN = os.path.join(ROOT, "bench", "twin")
 TRACES = 200
 LINES = 1500
+CHANGES = 20
+ONE_SPOILT_OF = 5
 SEED = 20261124
 KINDS = ("standard", "boot", "reflection", "hidden")
 
@@ -56,6 +58,32 @@ def command(chance):
     return chance.choices(list(shapes), shapes.values())[0]
 
 
+def changed_digit(chance, line):
+    """The line with one digit other than 0 made less, or left: no number becomes too large, and none begins with 0."""
+    places = [place for place, byte in enumerate(line) if b"1"[0] <= byte <= b"9"[0]]
+    if not places:
+        return line
+    place = chance.choice(places)
+    return line[:place] + b"%d" % chance.randint(1, int(line[place:place + 1])) + line[place + 1:]
+
+
+def changed(chance, text):
+    """The text with lines left out, doubled and exchanged, and with digits changed: none of this is a fault."""
+    lines = text.split(b"\n")[:-1]
+    for _ in range(CHANGES):
+        place, other = chance.randrange(len(lines)), chance.randrange(len(lines))
+        match chance.randrange(4):
+            case 0:
+                del lines[place]
+            case 1:
+                lines.insert(other, lines[place])
+            case 2:
+                lines[place], lines[other] = lines[other], lines[place]
+            case _:
+                lines[place] = changed_digit(chance, lines[place])
+    return b"".join(line + b"\n" for line in lines)
+
+
 def spoilt(chance, text):
     """The text with a byte changed, put in or left out."""
     place = chance.randrange(len(text))
@@ -77,14 +105,20 @@ def examples_are_answered_the_same(bench):
 
 
 def random_traces_are_answered_the_same(bench):
-    """Random traces, each with options by chance, and each once more with faults."""
-    twin, chance, faulty = built(bench), random.Random(SEED), 0
-    for _ in range(TRACES):
+    """Random traces with options by chance: each as it is and with changes, and one of five with a byte spoilt.
+
+    At most one of five may end at a fault, since then nothing runs.
+    """
+    twin, chance, runs, faulty = built(bench), random.Random(SEED), 0, 0
+    for number in range(TRACES):
         options = options_by_chance(chance)
         text = "".join(f"{command(chance)}\n" for _ in range(LINES)).encode()
-        expect(expect_same(bench, twin, options, text).status == 0, "the trace has a fault")
-        faulty += expect_same(bench, twin, options, spoilt(chance, text)).status == 1
-    return f"{faulty} of {TRACES} with a fault"
+        texts = [text, changed(chance, text)] + [spoilt(chance, text)] * (number % ONE_SPOILT_OF == 0)
+        statuses = [expect_same(bench, twin, options, text).status for text in texts]
+        expect(statuses[:2] == [0, 0], "the trace has a fault")
+        runs, faulty = runs + len(texts), faulty + statuses.count(1)
+    expect(0 < 5 * faulty <= TRACES, "of", runs, "runs so many end at a fault:", faulty)
+    return f"{runs} runs, {faulty} of them with a fault"
 
 
 def tests():
