@@ -23,13 +23,13 @@ abbrev pub with_others : TableView → List (ℕ × Block) → TableView
 with_others table others = record { first = table.first; row = table.row; others = others }
 
 -- The name has among all what it has among the others.
-has_there : (table : TableView) (name : ℕ) → in_row table.first table.row name ≡ no_block
+pub has_there : (table : TableView) (name : ℕ) → in_row table.first table.row name ≡ no_block
     → named (by_name (entries_of table)) name ≡ named (by_name table.others) name
 has_there table name none =
     named_of table name ∙ ap (λ b. unless_none b (lookup (nat_eq name) table.others)) none
     ∙ sym (named_by_name table.others name)
 
-cause_there : (names others : List (ℕ × Block)) (name words : ℕ) (refusal : Refusal)
+pub cause_there : (names others : List (ℕ × Block)) (name words : ℕ) (refusal : Refusal)
     → named names name ≡ named others name → EnterRefused others name words refusal
     → EnterRefused names name words refusal
 cause_there names others name words BlockExists same cause = (cause.0, same ∙ cause.1)

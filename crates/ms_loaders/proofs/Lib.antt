@@ -2,6 +2,7 @@ mod TimesLemmas
 pub mod TableLemmas
 mod SlideLemmas
 mod BesideLemmas
+mod RefusedLemmas
 pub mod MappedLemmas
 mod HolderLemmas
 mod OneHolderLemmas

@@ -13,6 +13,7 @@ use Rattle.ms_base.specs.State.{LoaderState, empty_loader, arena_of}
 use Rattle.ms_base.specs.Good.{IsSoundLoader}
 use Rattle.ms_base.specs.Transition.{with_block, with_allocated, with_freed, zeroed}
 use Rattle.ms_pool.specs.Account.{AccountState, AreChunks}
+use Rattle.ms_pool.specs.Source.{IsTakeRefusal}
 use Rattle.ms_arena.specs.Arena.{ArenaView, PlaceRefused}
 use Rattle.ms_arena.specs.Alloc.{TakeRelation, GrowRelation, Allocates}
 
@@ -82,6 +83,10 @@ pub record IsNotAsked {S : Type 0} (old : LoaderView) (name words : ℕ) (before
   pub cause : NameRefused old name words refusal
   pub loader : new ≡ old
   pub source : after ≡ before
+
+-- Why no block is allocated under a name: no arena is asked, or its source lends no chunk.
+abbrev pub BlockRefused : LoaderView → ℕ → ℕ → Refusal → Type 0
+BlockRefused loader name words refusal = NameRefused loader name words refusal ⊎ IsTakeRefusal refusal
 
 -- An allocation of so many words in a space, under a name.
 abbrev pub AllocatesBlock : {S : Type 0} → GrowRelation S → TakeRelation S → Policy → Space → LoaderView → ℕ → ℕ → S

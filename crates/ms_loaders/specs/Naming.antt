@@ -7,6 +7,7 @@ use Rattle.ms_base.specs.declared.refusal.Refusal.{Refusal}
 use Rattle.ms_base.specs.declared.refusal.Refusal.TheVariants.{BlockExists}
 use Rattle.ms_base.specs.Names.{named, with_new}
 use Rattle.ms_base.specs.Hashed.{by_name}
+use Rattle.ms_pool.specs.Source.{IsTakeRefusal}
 use Rattle.ms_loaders.specs.Table.{TableView, entries_of}
 use Rattle.ms_arena.specs.Arena.{PlaceRefused}
 use Rattle.ms_arena.specs.Alloc.{TakeRelation, GrowRelation, Allocates}
@@ -24,6 +25,10 @@ names_of table = record { entries = by_name (entries_of table) }
 abbrev pub EnterRefused : List (ℕ × Block) → ℕ → ℕ → Refusal → Type 0
 EnterRefused names name words BlockExists = (found : Block) × (named names name ≡ Some found)
 EnterRefused names name words refusal = (named names name ≡ None) × PlaceRefused words refusal
+
+-- Why no block gets a name: the name is not entered, or the arena's source lends no chunk.
+abbrev pub NamedRefused : List (ℕ × Block) → ℕ → ℕ → Refusal → Type 0
+NamedRefused names name words refusal = EnterRefused names name words refusal ⊎ IsTakeRefusal refusal
 
 -- The names after an answer: the block has its name, or all is as it was.
 abbrev pub names_after : List (ℕ × Block) → ℕ → Result Block Refusal → List (ℕ × Block)

@@ -13,7 +13,7 @@ ghost use Rattle.ms_base.specs.declared.kind.Space.TheVariants.{NonClass, Class}
 ghost use Rattle.ms_base.specs.Spaces.{is_in};
 ghost use Rattle.ms_base.specs.Totals.{used_of};
 ghost use Rattle.ms_pool.specs.Source.{LeavesRest};
-ghost use Rattle.ms_loaders.specs.Loader.{owner_in, account_in, new_loader, with_state, IsSoundView, AllocatesBlock};
+ghost use Rattle.ms_loaders.specs.Loader.{owner_in, account_in, new_loader, with_state, IsSoundView, AllocatesBlock, BlockRefused};
 ghost use Rattle.ms_loaders.specs.Loader.{HasWord, WritesWord, FreesBlock, LacksWord, LacksName};
 ghost use Rattle.ms_loaders.specs.Sums.{AreSumsIn};
 ghost use Rattle.ms_loaders.specs.GivenBack.{AreAccountsOf};
@@ -110,7 +110,8 @@ impl Loader {
 
     /// Allocates a block of so many words, at least two, in a space, under a new name; its words
     /// are 0. Refused with `BlockExists` where the name is used, then as the arena of the space
-    /// refuses; a refusal leaves the loader as it was. Takes memory.
+    /// refuses: with `ZeroWords`, `TooLarge`, `OutOfMemory`, `CommitLimit` or `ReserveLimit`. A
+    /// refusal leaves the loader as it was. Takes memory.
     pub fn allocate<S: ChunkSource>(
         &mut self,
         source: &mut S,
@@ -123,6 +124,7 @@ impl Loader {
         ensures rest { LeavesRest S.serves S.opened S.limits (owner_in space self.old) source.old source.new }
         ensures allocates { AllocatesBlock S.grew S.took (S.limits source.old).policy space self.old
             name words source.old result self.new source.new }
+        ensures refused { IfErr result (BlockRefused self.old name words) }
         ensures unchanged { OnErr result (self.new ≡ self.old) }
         ensures sound { IsSoundView self.new }
     {
@@ -148,6 +150,7 @@ impl Loader {
         ensures rest { LeavesRest S.serves S.opened S.limits self.old.owner source.old source.new }
         ensures allocates { AllocatesBlock S.grew S.took (S.limits source.old).policy NonClass self.old
             name words source.old result self.new source.new }
+        ensures refused { IfErr result (BlockRefused self.old name words) }
         ensures unchanged { OnErr result (self.new ≡ self.old) }
         ensures sound { IsSoundView self.new }
     {
@@ -166,6 +169,7 @@ impl Loader {
         ensures rest { LeavesRest S.serves S.opened S.limits self.old.class_owner source.old source.new }
         ensures allocates { AllocatesBlock S.grew S.took (S.limits source.old).policy Class self.old
             name words source.old result self.new source.new }
+        ensures refused { IfErr result (BlockRefused self.old name words) }
         ensures unchanged { OnErr result (self.new ≡ self.old) }
         ensures sound { IsSoundView self.new }
     {

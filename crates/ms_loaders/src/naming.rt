@@ -5,12 +5,12 @@
 //! A name is found, entered and taken out in about the same time, however many there are (`table`).
 //! Making room for a name takes memory, so it is done before the arena is asked. Where the arena
 //! refuses, no name was ever entered, and the room stays for a later one.
-ghost use Rattle.std.specs.Prelude.{◌≡◌, IfNone, []};
+ghost use Rattle.std.specs.Prelude.{◌≡◌, IfNone, IfErr, []};
 ghost use Rattle.ms_base.specs.Names.{AreNamed, named, without};
 ghost use Rattle.ms_arena.specs.Raw.{raw_account};
 ghost use Rattle.ms_pool.specs.Source.{LeavesRest};
 ghost use Rattle.ms_base.specs.Hashed.{by_name};
-ghost use Rattle.ms_loaders.specs.Naming.{AllocatesNamed};
+ghost use Rattle.ms_loaders.specs.Naming.{AllocatesNamed, NamedRefused};
 ghost use Rattle.ms_loaders.specs.Table.{HasPlace, entries_of};
 
 mod finding;
@@ -98,6 +98,7 @@ pub fn allocate_in<S: ChunkSource>(
     ensures rest { LeavesRest S.serves S.opened S.limits arena.old.owner source.old source.new }
     ensures allocates { AllocatesNamed S.grew S.took (S.limits source.old).policy names.old.entries
         arena.old name words source.old result names.new.entries arena.new source.new }
+    ensures refused { IfErr result (NamedRefused names.old.entries name words) }
 {
     let many = arena.expects_many();
     let mut refused = false;
@@ -122,6 +123,7 @@ fn allocate_in_row<S: ChunkSource>(
     ensures rest { LeavesRest S.serves S.opened S.limits arena.old.owner source.old source.new }
     ensures allocates { AllocatesNamed S.grew S.took (S.limits source.old).policy (by_name (entries_of table.old))
         arena.old name words source.old result (by_name (entries_of table.new)) arena.new source.new }
+    ensures refused { IfErr result (NamedRefused (by_name (entries_of table.old)) name words) }
 {
     if table.get(name).is_some() {
         return Err(Refusal::BlockExists);
@@ -148,6 +150,7 @@ fn allocate_beside<S: ChunkSource>(
     ensures rest { LeavesRest S.serves S.opened S.limits arena.old.owner source.old source.new }
     ensures allocates { AllocatesNamed S.grew S.took (S.limits source.old).policy (by_name others.old.entries)
         arena.old name words source.old result (by_name others.new.entries) arena.new source.new }
+    ensures refused { IfErr result (NamedRefused (by_name others.old.entries) name words) }
 {
     match others.entry(name) {
         Ok(Entry::Vacant(slot)) => {

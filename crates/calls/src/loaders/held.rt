@@ -57,7 +57,11 @@ impl ChunkSource for NoChunks {
         _total: u64,
         _may_enlarge: bool,
     ) -> Result<Span, Refusal> {
-        Err(Refusal::ReserveLimit { nodes: 0, limit: 0 })
+        Err(Refusal::CommitLimit {
+            committed: 0,
+            limit: 0,
+            need: 1,
+        })
     }
 
     fn close(&mut self, account: Account) {

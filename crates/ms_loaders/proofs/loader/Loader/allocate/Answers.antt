@@ -1,6 +1,7 @@
 use Rattle.ms_base.specs.declared.kind.Space.TheVariants.{NonClass, Class}
 use Rattle.ms_loaders.proofs.calls.ViewLemmas.{view_is_sound}
 use Rattle.ms_loaders.proofs.calls.LoaderAllocLemmas.{allocated}
+use Rattle.ms_loaders.proofs.RefusedLemmas.{block_refused}
 use Rattle.ms_loaders.proofs.loader.Loader.allocate.Goals as goal
 
 pub invariant_of-self : goal.invariant_of-self
@@ -52,3 +53,14 @@ returns-in-Class-clause-sound g c =
     (allocated Class c.self.inside c.self.invariant c.args.name c.allocate_in-in-Class.new.arena
     c.allocate_in-in-Class.new.names
     c.allocate_in-in-Class.ensures.allocates).loader
+
+pub returns-in-NonClass-clause-refused : goal.returns-in-NonClass-clause-refused
+returns-in-NonClass-clause-refused g c =
+    rw (← c.self.view_is)
+    (block_refused c.self.inside c.args.name c.args.words c.allocate_in.result c.allocate_in.ensures.refused)
+
+pub returns-in-Class-clause-refused : goal.returns-in-Class-clause-refused
+returns-in-Class-clause-refused g c =
+    rw (← c.self.view_is)
+    (block_refused c.self.inside c.args.name c.args.words c.allocate_in-in-Class.result
+    c.allocate_in-in-Class.ensures.refused)
