@@ -1,7 +1,7 @@
 -- The lent leaves of a root chunk, in order of address, and what each call does to them. Free
 -- leaves are not kept: they are the free parts of the root that the lent leaves leave over.
 use Rattle.std.specs.Prelude.{◌≡◌, ℕ, ◌+◌, ◌-◌, ◌<◌, ◌≤◌, Bool, not, cond, ◌&&◌, ◌==◌, nat_le, nat_lt, List, [], ◌∷◌}
-use Rattle.std.specs.Prelude.{map, Option, Some, None, IsTrue, IsFalse}
+use Rattle.std.specs.Prelude.{map, Some, IsTrue, IsFalse}
 use Rattle.std.specs.Prelude.{Result, OnOk, IfErr}
 use Rattle.std.specs.Int.{bit_at}
 use Rattle.std.specs.List.{AllByRecursion, list_any, filter, find}
@@ -61,12 +61,6 @@ is_of_from level from part = is_of level part && nat_le from part.start
 -- The parts that start at an offset or past it.
 abbrev pub from_on : ℕ → List Span → List Span
 from_on at parts = filter (λ part. nat_le at part.start) parts
-
--- The lower of two parts, where there are any.
-abbrev pub lower_of : Option Span → Option Span → Option Span
-lower_of None other = other
-lower_of (Some part) None = Some part
-lower_of (Some part) (Some other) = cond (nat_lt other.start part.start) (Some other) (Some part)
 
 -- The bit of a level is set.
 abbrev pub has_level : ℕ → ℕ → Bool

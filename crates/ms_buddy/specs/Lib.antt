@@ -3,6 +3,7 @@ pub mod Tree
 pub mod Boxes
 pub mod Walk
 pub mod Walks
+pub mod Row
 pub mod Places
 pub mod Laws
 pub mod Counts

@@ -4,12 +4,13 @@
 //! `LeavesOf`, of which a walk is made. Takes no memory.
 ghost use Rattle.std.specs.Prelude.{◌≡◌};
 ghost use Rattle.ms_buddy.specs.Boxes.{shape_of};
-ghost use Rattle.ms_buddy.specs.Leaves.{free_of, from_on};
+ghost use Rattle.ms_buddy.specs.Leaves.{free_of};
 ghost use Rattle.ms_buddy.specs.Tree.{IsTree, free_in};
 
 use crate::node::Node;
 use crate::node_walk::NodeWalk;
 use crate::part_table::PartTable;
+use crate::part_walk::PartWalk;
 use crate::tree::SplitTree;
 use ms_base::Span;
 use std::alloc::Allocator;
@@ -20,8 +21,8 @@ use std::marker::Model;
 enum Walk<'a, A: Allocator> {
     /// By the nodes of a tree in boxes.
     Nodes(NodeWalk<'a, A>),
-    /// By searches in a table of parts, from an offset on.
-    Parts(&'a PartTable<A>, u64),
+    /// By the parts of a table.
+    Parts(PartWalk<'a, A>),
 }
 
 /// The free leaves of a root chunk that a walk has still to give, in order of address. Takes no
@@ -53,11 +54,11 @@ impl<'a, A: Allocator> FreeLeaves<'a, A> {
     }
 
     /// Starts the walk over a table of parts.
-    pub(crate) fn of_parts(table: &'a PartTable<A>, at: u64) -> FreeLeaves<'a, A>
-        ensures { result ≡ from_on at (free_of table.now) }
+    pub(crate) fn of_parts(table: &'a PartTable<A>) -> FreeLeaves<'a, A>
+        ensures { result ≡ free_of table.now }
     {
         FreeLeaves {
-            walk: Walk::Parts(table, at),
+            walk: Walk::Parts(PartWalk::new(table)),
         }
     }
 }
@@ -74,11 +75,7 @@ impl<'a, A: Allocator> Iterator for FreeLeaves<'a, A> {
     fn next(&mut self) -> Option<Span> {
         match &mut self.walk {
             Walk::Nodes(nodes) => nodes.next(),
-            Walk::Parts(table, at) => {
-                let found = table.lowest_from(*at)?;
-                *at = found.start + 1;
-                Some(found)
-            }
+            Walk::Parts(parts) => parts.next(),
         }
     }
 }

@@ -1,10 +1,12 @@
-//! The split tree of one root chunk: which parts of it are lent, to whom and with which front, and
-//! which are free.
+//! The splits of one root chunk: which parts of it are lent, to whom and with which front, and which
+//! are free.
 //!
-//! Apart because it needs nothing of the pool that keeps one tree for each root: no limit, no
-//! granule, and any allocator. Contracts see a tree as the list of its lent leaves in order of
-//! address, `specs/Leaves.antt`; the free leaves are a function of that list. The lowest free leaf
-//! of a level is found by its bit. Stands on `ms_base`. Only `carve` takes memory.
+//! Apart because it needs nothing of the pool that keeps one for each root: no limit, no granule, and
+//! any allocator. `RootChunkArea` says what it does, over the list of the lent leaves in order of
+//! address (`specs/Leaves.antt`), of which the free leaves are a function. Two bodies meet it:
+//! `SplitTree`, a tree in boxes, and `PartTable`, bits and places, which serves the pool and has
+//! searches of its own beside. Stands on `ms_base`, and on `arrayvec` for the stacks of the walks over
+//! free leaves. Only `carve` takes memory.
 #![tactic(auto)]
 
 mod area;
@@ -16,6 +18,7 @@ mod levels;
 mod node;
 mod node_walk;
 mod part_table;
+mod part_walk;
 mod parts;
 mod places;
 mod tree;

@@ -1,27 +1,18 @@
-//! The split tree of one root chunk, and what callers may do with it.
+//! The splits of one root chunk as bits and places: a bit for each part says whether it is a free
+//! leaf (`free_bits`), and each lent leaf stands at the place of its first word (`places`). The free
+//! leaves of each level are counted too (`levels`).
 //!
-//!     word 0          512        1024                  2048
-//!          +----------+----------+---------------------+----
-//!          | lent, 10 | free, 10 |      free, 9        | ...      (a number is a level)
-//!          +----------+----------+---------------------+----
-//!            leader     follower
+//! No split stands in memory. By the bits the lowest free leaf of a level is found, and how far a
+//! leaf merges that is released; by the places which leaf is lent, to whom and with which front.
 //!
-//! Kept true: the leaves cover the root, none overlap, and no split has two free halves, so a free
-//! leaf is as large as it can be; and the free leaves of each level are counted. `release` of the
-//! lent leaf merges up to the root:
-//!
-//!          | lent, 10 | free, 10 |      free, 9        |        free, 8        | ...
-//!          | free, 10 | free, 10 |      free, 9        |        free, 8        | ...
-//!          |      free, 9        |      free, 9        |        free, 8        | ...
-//!          |                  free, 8                  |        free, 8        | ...
-//!          |                             free, 0                                   |
-//!
-//! No split stands in memory: a bit for each part of the root tells whether it is a free leaf
-//! (`free_bits`), and so where the lowest one of a level is, and how far a leaf merges that is
-//! released; and each lent leaf stands at the place of its first word (`places`). So each call but
-//! `free_leaves` looks at 13 bits and one place at most. Only `carve` takes memory, once, where the
-//! root is split for the first time; it goes back with the tree. After RootChunkArea in HotSpot's
-//! rootChunkArea.hpp, which has a list in place of the bits.
+//! What each call reads: `is_whole` a bit; `can_enlarge` a bit; `free_count` a count; `free_levels`
+//! the 13 counts; `lowest_free` and `next_free` the bits of one level, 64 at a time, and no more of
+//! these words than have a bit set; `leaf_at` a bit and a place for each level down to the leaf's, 13
+//! of each at most; `set_front` a place; `carve`, `release` and `enlarge` 13 bits and a place at most,
+//! and they change the counts of the levels between. `free_leaves` reads a bit and a place of each
+//! part that it visits: the leaves and what is split (`part_walk`). Only `carve` takes memory, once,
+//! where the root is split for the first time; it goes back with the table. After RootChunkArea in
+//! HotSpot's rootChunkArea.hpp, which has a list in place of the bits.
 ghost use Rattle.std.specs.Prelude.{◌≡◌, ℕ, ◌+◌, ◌*◌, ◌/◌, ◌%◌, ◌<◌, ◌≤◌, ◌≢◌, ◌↔◌, [], ◌∷◌, Some, Err, IsTrue, IsFalse};
 ghost use Rattle.std.specs.Prelude.{IsOk, IfOk, OnOk, IfErr, OnErr, IfSome, IfNone};
 ghost use Rattle.std.specs.List.{find, list_any};
@@ -29,23 +20,27 @@ ghost use Rattle.ms_base.specs.declared.sizes.TheConstants.{ROOT_WORDS};
 ghost use Rattle.ms_base.specs.Level.{size_of};
 ghost use Rattle.ms_buddy.specs.Counts.{count_at_level};
 ghost use Rattle.ms_buddy.specs.Leaves.{AreLeaves, IsCarveRefusal, IsLeafAt, can_enlarge, covers, fits_in, free_of};
-ghost use Rattle.ms_buddy.specs.Leaves.{LendsAt, from_on, has_level, is_lent, is_of, is_of_from, leaf_of};
-ghost use Rattle.ms_buddy.specs.Leaves.{lower_of, parent_of, root};
+ghost use Rattle.ms_buddy.specs.Leaves.{LendsAt, has_level, is_lent, is_of, is_of_from, leaf_of};
+ghost use Rattle.ms_buddy.specs.Leaves.{parent_of, root};
 ghost use Rattle.ms_buddy.specs.Leaves.{span_at, with_front, with_leaf, with_parent, without_leaf};
+ghost use Rattle.ms_buddy.specs.Row.{AreWithin, IsSeen};
+ghost use Rattle.ms_buddy.specs.Tree.{IsPlace};
 
 use crate::area::RootChunkArea;
 use crate::free_bits::{FreeBits, first_from, number, start_of, start_of_holder};
 use crate::leaf::Leaf;
 use crate::leaves::{FreeLeaves, LeavesOf};
 use crate::levels::{LEVELS, join_counts, levels_of, part_counts};
+use crate::part_walk::Seen;
 use crate::parts::{part, words_of};
 use crate::places::{Lending, NONE, PLACE, Place, Places};
 use ms_base::{Level, ROOT_WORDS, Refusal, Span};
 use std::alloc::Allocator;
 use std::marker::Model;
 
-/// The split tree of one root chunk, whose words are numbered from 0. Contracts see the
-/// list of its lent leaves, in order of address. After JEP 387.
+/// The parts of one root chunk, whose words are numbered from 0 to 524287, in a table of 32,760 bytes
+/// once the root is split. Contracts see the list of its lent leaves, in order of address. After
+/// JEP 387.
 pub struct PartTable<A: Allocator> {
     /// What is lent from each place on.
     places: Places<A>,
@@ -81,7 +76,7 @@ impl<A: Allocator> Model for PartTable<A> {
 }
 
 impl<A: Allocator> PartTable<A> {
-    /// Makes a tree of one free leaf, the whole root. Takes no memory.
+    /// Makes a table of one free leaf, the whole root. Takes no memory.
     pub fn new() -> PartTable<A>
         ensures { result ≡ [] }
     {
@@ -127,7 +122,7 @@ impl<A: Allocator> PartTable<A> {
     pub fn free_leaves(&self) -> FreeLeaves<'_, A>
         ensures { result ≡ free_of self.now }
     {
-        FreeLeaves::of_parts(self, 0)
+        FreeLeaves::of_parts(self)
     }
 
     /// Tells the levels of the free leaves as bits, that of level 0 the lowest. Takes no memory.
@@ -186,22 +181,24 @@ impl<A: Allocator> PartTable<A> {
         }
     }
 
-    /// Finds the lowest free leaf that starts at an offset or past it, and tells that those from
-    /// there on are it and those past it.
-    pub(crate) fn lowest_from(&self, at: u64) -> Option<Span>
-        ensures some { IfSome result (λ part. from_on at (free_of self.now)
-            ≡ part ∷ from_on (part.start + 1) (free_of self.now)) }
-        ensures small { IfSome result (λ part. part.start < ROOT_WORDS) }
-        ensures none { IfNone result (from_on at (free_of self.now) ≡ []) }
+    /// Looks at a part that starts there, which no larger free leaf meets: at its bit, and at what is
+    /// lent from its first word on. Takes no memory.
+    pub(crate) fn look(&self, level: u8, start: u64) -> Seen
+        requires place { IsPlace level start }
+        requires within { AreWithin level start (free_of self.now) }
+        ensures { IsSeen level start (free_of self.now) result }
     {
-        // What is true of the free leaves of every tree is learnt here.
-        let _ = &self.free;
-        let mut lowest: Option<Span> = None;
-        for number in 0..13 {
-            let found = self.next_free(Level::new(number), at);
-            lowest = lower(lowest, found);
+        if self.free.has(number(level, start)) {
+            return Seen::Free;
         }
-        lowest
+        // A part of the smallest size is not split, so it lies in a leaf that is lent.
+        if level == 12 {
+            return Seen::Lent;
+        }
+        match self.lent_at(level, start) {
+            Some(_) => Seen::Lent,
+            None => Seen::Split,
+        }
     }
 
     /// Tells the lent leaf of a level that starts there, where there is one.
@@ -326,21 +323,6 @@ impl<A: Allocator> PartTable<A> {
         part_counts(&mut self.counts, free, lent);
         self.free.part(free, at, lent);
         Ok(())
-    }
-}
-
-/// The lower of two parts, where there are any.
-fn lower(part: Option<Span>, other: Option<Span>) -> Option<Span>
-    ensures { result ≡ lower_of part other }
-{
-    match (part, other) {
-        (Some(first), Some(second)) => Some(if second.start < first.start {
-            second
-        } else {
-            first
-        }),
-        (Some(first), None) => Some(first),
-        (None, second) => second,
     }
 }
 

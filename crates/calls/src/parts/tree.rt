@@ -1,155 +1,204 @@
-//! The rows of a split tree: a part is to be lent; lent leaves are changed, enlarged and released.
+//! The rows of a root chunk's splits, of a table of parts and of a tree in boxes: a part is to be lent;
+//! lent leaves are changed, enlarged and released.
 ghost use Rattle.std.specs.Prelude.{◌<◌, IfSome, IsTrue};
 ghost use Rattle.ms_base.specs.declared.sizes.TheConstants.{ROOT_WORDS};
 ghost use Rattle.ms_buddy.specs.Leaves.{is_lent};
 
 use crate::row::{Answer, Row, line, mark, say, tell, told, unprepared};
 use ms_base::{Level, Refusal, Span};
-use ms_buddy::{Leaf, PartTable};
+use ms_buddy::{Leaf, PartTable, RootChunkArea, SplitTree};
 use std::alloc::Global;
+use std::fmt::Debug;
 use std::io;
 
-/// Tells the row.
+/// Tells the row of a table of parts.
 pub(crate) fn tell_all(rt: &HostRuntime) -> io::Result<()> {
-    let Ok(mut tree) = lending(rt.alloc()) else {
+    let Ok(mut table) = lending::<PartTable<Global>>(rt.alloc()) else {
         return Err(unprepared());
     };
     mark(rt, "tree");
-    tell_tree(rt, &tree);
-    tell_larger(rt, &mut tree, 0);
-    tell_larger(rt, &mut tree, 512);
-    tell_released(rt, &mut tree, 512);
-    tell_released(rt, &mut tree, 0);
-    tell_released(rt, &mut tree, 0);
+    tell_table(rt, &table);
+    for offset in [0, 512] {
+        tell_larger(rt, "tree", &mut table, offset);
+        tell_table(rt, &table);
+    }
+    for offset in [512, 0, 0] {
+        tell_fact(rt, "tree", "release", &release(&mut table, offset));
+        tell_table(rt, &table);
+    }
+    drop(table);
+    Ok(())
+}
+
+/// Tells the row of a tree in boxes.
+pub(crate) fn tell_boxes(rt: &HostRuntime) -> io::Result<()> {
+    let Ok(mut tree) = lending::<SplitTree<Global>>(rt.alloc()) else {
+        return Err(unprepared());
+    };
+    mark(rt, "boxes");
+    tell_leaves(rt, "boxes", &tree);
+    for offset in [0, 512] {
+        tell_larger(rt, "boxes", &mut tree, offset);
+        tell_leaves(rt, "boxes", &tree);
+    }
+    for offset in [512, 0, 0] {
+        tell_fact(rt, "boxes", "release", &release(&mut tree, offset));
+        tell_leaves(rt, "boxes", &tree);
+    }
     drop(tree);
     Ok(())
 }
 
+/// Tells a fact of a row on a line of its own.
+fn tell_fact<F: Debug>(rt: &HostRuntime, row: &str, about: &str, fact: &F) {
+    let _ = print!(rt; "{row} ");
+    line(rt, about, fact);
+}
+
 /// Makes the leaf there larger, with the front.
-fn tell_larger(rt: &HostRuntime, tree: &mut PartTable<Global>, offset: u64)
+fn tell_larger<T: RootChunkArea<Global>>(
+    rt: &HostRuntime,
+    row: &str,
+    area: &mut T,
+    offset: u64,
+)
     requires { offset < ROOT_WORDS }
 {
-    line(rt, "tree front", &set_front(tree, offset));
-    line(rt, "tree enlarge", &enlarge(tree, offset));
-    tell_tree(rt, tree);
+    tell_fact(rt, row, "front", &set_front(area, offset));
+    tell_fact(rt, row, "enlarge", &enlarge(area, offset));
 }
 
-/// Takes the leaf there out.
-fn tell_released(rt: &HostRuntime, tree: &mut PartTable<Global>, offset: u64)
-    requires { offset < ROOT_WORDS }
-{
-    line(rt, "tree release", &release(tree, offset));
-    tell_tree(rt, tree);
-}
-
-/// Makes a tree that has lent two parts, of which the lower has a free buddy.
-fn lending(alloc: Global) -> Result<PartTable<Global>, Refusal> {
-    let mut tree = PartTable::new();
-    tree.carve(alloc, Level::new(10), 512, 1, 100)?;
-    tree.carve(alloc, Level::new(12), 0, 2, 7)?;
-    Ok(tree)
+/// Makes the splits of a root of which two parts are lent, the lower with a free buddy.
+fn lending<T: RootChunkArea<Global> + Drop>(alloc: Global) -> Result<T, Refusal> {
+    let mut area = T::new();
+    area.carve(alloc, Level::new(10), 512, 1, 100)?;
+    area.carve(alloc, Level::new(12), 0, 2, 7)?;
+    Ok(area)
 }
 
 /// Finds the lent leaf that covers an offset.
-fn lent_at(tree: &PartTable<Global>, offset: u64) -> Option<Span>
+fn lent_at<T: RootChunkArea<Global>>(area: &T, offset: u64) -> Option<Span>
     requires { offset < ROOT_WORDS }
-    ensures { IfSome result (λ span. IsTrue (is_lent tree.now span)) }
+    ensures { IfSome result (λ span. IsTrue (is_lent (T.lent area.now) span)) }
 {
-    match tree.leaf_at(offset) {
+    match area.leaf_at(offset) {
         (span, Leaf::Lent { .. }) => Some(span),
         (_, Leaf::Free) => None,
     }
 }
 
 /// Makes the front of the leaf there as large as the leaf, and tells how large.
-fn set_front(tree: &mut PartTable<Global>, offset: u64) -> Option<u64>
+fn set_front<T: RootChunkArea<Global>>(area: &mut T, offset: u64) -> Option<u64>
     requires { offset < ROOT_WORDS }
 {
-    let span = lent_at(tree, offset)?;
+    let span = lent_at(area, offset)?;
     let words = span.level.words();
-    tree.set_front(span, words);
+    area.set_front(span, words);
     Some(words)
 }
 
 /// Tells whether the leaf there can become its parent.
-fn can_enlarge(tree: &PartTable<Global>, offset: u64) -> Option<bool>
+fn can_enlarge(table: &PartTable<Global>, offset: u64) -> Option<bool>
     requires { offset < ROOT_WORDS }
 {
-    let span = lent_at(tree, offset)?;
-    Some(tree.can_enlarge(span))
+    let span = lent_at(table, offset)?;
+    Some(table.can_enlarge(span))
 }
 
 /// Makes the leaf there its parent.
-fn enlarge(tree: &mut PartTable<Global>, offset: u64) -> Option<Result<Span, Refusal>>
+fn enlarge<T: RootChunkArea<Global>>(area: &mut T, offset: u64) -> Option<Result<Span, Refusal>>
     requires { offset < ROOT_WORDS }
 {
-    let span = lent_at(tree, offset)?;
+    let span = lent_at(area, offset)?;
     let words = span.level.words();
-    Some(tree.enlarge(span, words))
+    Some(area.enlarge(span, words))
 }
 
 /// Takes the leaf there out.
-fn release(tree: &mut PartTable<Global>, offset: u64) -> Option<Span>
+fn release<T: RootChunkArea<Global>>(area: &mut T, offset: u64) -> Option<Span>
     requires { offset < ROOT_WORDS }
 {
-    let span = lent_at(tree, offset)?;
-    Some(tree.release(span))
+    let span = lent_at(area, offset)?;
+    Some(area.release(span))
 }
 
-/// Tells the leaves and what the searches find.
-fn tell_tree(rt: &HostRuntime, tree: &PartTable<Global>) {
-    for offset in [0, 128, 512] {
-        line(rt, "tree leaf", &tree.leaf_at(offset));
+/// Tells the leaves of a tree in boxes, and whether it is whole.
+fn tell_leaves(rt: &HostRuntime, row: &str, tree: &SplitTree<Global>) {
+    tell_some(rt, row, tree);
+    tell_fact(rt, row, "is whole", &tree.is_whole());
+    for span in tree.free_leaves() {
+        tell_fact(rt, row, "free", &span);
     }
+}
+
+/// Tells the leaves at some offsets.
+fn tell_some<T: RootChunkArea<Global>>(rt: &HostRuntime, row: &str, area: &T) {
+    for offset in [0, 128, 512] {
+        tell_fact(rt, row, "leaf", &area.leaf_at(offset));
+    }
+}
+
+/// Tells the leaves of a table and what the searches find.
+fn tell_table(rt: &HostRuntime, table: &PartTable<Global>) {
+    tell_some(rt, "tree", table);
     let level = Level::new(10);
-    line(rt, "tree is whole", &(tree.is_whole(), tree.free_levels()));
+    line(rt, "tree is whole", &(table.is_whole(), table.free_levels()));
     line(
         rt,
         "tree can",
-        &(can_enlarge(tree, 0), can_enlarge(tree, 512)),
+        &(can_enlarge(table, 0), can_enlarge(table, 512)),
     );
     line(
         rt,
         "tree found",
-        &(tree.lowest_free(level), tree.next_free(level, 512)),
+        &(table.lowest_free(level), table.next_free(level, 512)),
     );
-    for span in tree.free_leaves() {
+    for span in table.free_leaves() {
         line(rt, "tree free", &span);
     }
     for number in 8..13 {
-        let count = tree.free_count(Level::new(number));
+        let count = table.free_count(Level::new(number));
         line(rt, "tree count", &(number, count));
     }
 }
 
-/// A tree, of which a part is to be lent.
+/// The splits of a root, of which a part is to be lent.
 #[derive(Drop)]
-pub(crate) struct Carving {
+pub(crate) struct Carving<T> {
     alloc: Global,
-    tree: PartTable<Global>,
+    area: T,
 }
 
-impl Carving {
-    /// Prepares a tree that has lent nothing: it takes memory as it is split for the first time.
-    pub(crate) fn prepared(alloc: Global) -> Carving {
-        let tree = PartTable::new();
-        Carving { alloc, tree }
+impl Carving<PartTable<Global>> {
+    /// Prepares a table that has lent nothing: it takes memory as the root is split for the first
+    /// time.
+    pub(crate) fn prepared(alloc: Global) -> Carving<PartTable<Global>> {
+        let area = PartTable::new();
+        Carving { alloc, area }
     }
 }
 
-impl Row for Carving {
+impl Carving<SplitTree<Global>> {
+    /// Prepares a tree that has lent nothing: it takes two boxes for each level that is split.
+    pub(crate) fn in_boxes(alloc: Global) -> Carving<SplitTree<Global>> {
+        let area = SplitTree::new();
+        Carving { alloc, area }
+    }
+}
+
+impl<T: RootChunkArea<Global>> Row for Carving<T> {
     fn tell_state(&mut self, rt: &HostRuntime) -> io::Result<()> {
         for offset in [0, 128, 512, 1024] {
-            tell(rt, &self.tree.leaf_at(offset));
+            tell(rt, &self.area.leaf_at(offset));
         }
         say(rt, "free");
-        for span in self.tree.free_leaves() {
+        for span in self.area.free_leaves() {
             tell(rt, &span);
         }
         Ok(())
     }
 
     fn call(&mut self, rt: &HostRuntime) -> Answer {
-        told(rt, self.tree.carve(self.alloc, Level::new(12), 0, 2, 7))
+        told(rt, self.area.carve(self.alloc, Level::new(12), 0, 2, 7))
     }
 }
