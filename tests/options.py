@@ -38,6 +38,8 @@ DEFAULT = {"policy": "balanced", "granule": "8192", "max granules": "8192", "nod
 ACCEPTED = (
     (["--nodes", "4"], {"nodes": "4"}, b"ok"),
     (["--nodes=4"], {"nodes": "4"}, b"ok"),
+    (["--nodes", "04", "--max-granules=0000128"], {"nodes": "4", "max granules": "128"}, b"ok"),
+    (["--nodes=+4", "--class-nodes", "+2"], {"nodes": "4", "class nodes": "2"}, b"ok"),
     (["--policy=balanced", "--class-nodes", "1"], {"class nodes": "1"}, b"ok"),
     (["--addresses", "--workers=1", "--policy", "none", "--nodes=1", "--max-granules=1", "--class-nodes=0"],
      {"policy": "none", "max granules": "1", "nodes": "1"}, b"at 0"),

@@ -2,7 +2,7 @@
 -- where there is no option. Used by `options_of`.
 use Rattle.std.proofs.Common.{◌≡◌, ◌≤◌, ◌⊎◌, List, [], ◌∷◌, Some, None, true, refl, sym, ap, ap₂, ◌∙◌, arith, inl, inr}
 use Rattle.std.proofs.Common.{codes, length, subst, Result, Ok, Err}
-use Rattle.std.specs.Prelude.{IfOk, map}
+use Rattle.std.specs.Prelude.{IfErr, IfOk, map}
 use Rattle.std.specs.Borrow.{Bor}
 use Rattle.clap.specs.Words.{App, Row, Text, IsAmong, fault_of, first_of, is_simple, is_simple_and_free, matches_of}
 use Rattle.clap.specs.Words.{one_of}
@@ -12,7 +12,8 @@ use Rattle.metarun.proofs.OptionLemmas.{detail_unasked, number_unasked, policy_u
 use Rattle.clap.proofs.OnLiterals.{clap_on_literals}
 use Rattle.metarun.specs.declared.options.Options.{Options}
 use Rattle.metarun.specs.declared.options.Refused.{Refused}
-use Rattle.metarun.specs.Asked.{AreAsked, AreRead, IsAllowed, IsDefault}
+use Rattle.metarun.specs.declared.options.Refused.TheVariants as refused
+use Rattle.metarun.specs.Asked.{AreAsked, AreRead, IsAllowed, IsDefault, IsTold, SaysAlone}
 use Rattle.metarun.specs.CommandLine.{AskToBeTold, Choices, IsCommandLine, IsShown, choice_rule, line_with}
 
 -- The command line with the words of its choices.
@@ -97,6 +98,14 @@ default_is_asked text words options few default allowed =
         detail = detail_unasked rows _ found.5 default.detail;
       };
     }
+
+-- Where several workers are asked for addresses, no help is told.
+pub alone_is_no_help : (words : List Text) (chosen : Result Options Refused) → IfErr chosen SaysAlone
+    → IfErr chosen (λ refused. IsTold refused → AskToBeTold words)
+alone_is_no_help words (Ok options) says = tt
+alone_is_no_help words (Err (refused.Help text)) says = absurd says
+alone_is_no_help words (Err (refused.Usage text)) says = λ told. absurd told
+alone_is_no_help words (Err refused.OutOfMemory) says = λ told. absurd told
 
 -- What was chosen from the matches is what the words ask for.
 pub chosen_is_asked : (app : App) (words : List Text) (rows : List Row) (chosen : Result Options Refused)

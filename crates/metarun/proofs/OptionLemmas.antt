@@ -1,11 +1,8 @@
 -- What a number option reads of its text, what a policy is by its word, and what a session with
 -- default options answers. Used by `number_given` and `policy_in` of `options` and by `start`.
-use Rattle.std.proofs.Common.{◌≡◌, ◌<◌, ◌^◌, ℕ, List, Option, Some, None, Result, Ok, Err, refl, ap, sym, ◌∙◌}
+use Rattle.std.proofs.Common.{◌≡◌, ◌<◌, ◌^◌, ℕ, List, Option, Some, None, Result, Ok, Err, ap, sym, ◌∙◌}
 use Rattle.std.specs.Prelude.{codes}
-use Rattle.std.specs.Result.{result_ok}
-use Rattle.std.specs.Fmt.{decimal}
-use Rattle.std.specs.Str.Parse.{ParsesUnsigned}
-use Rattle.std.proofs.lemmas.Fmt.{parse-decimal}
+use Rattle.std.specs.Str.Parse.{IsNumeral, ParsesUnsigned, without_leading_plus}
 use Rattle.std.proofs.lemmas.Option.{none-some, same_Some}
 use Rattle.clap.specs.Matches.{ReadsOne}
 use Rattle.clap.specs.Words.{Row, Text, first_of, one_of}
@@ -13,28 +10,24 @@ use Rattle.ms_base.specs.declared.policy.Policy.{Policy}
 use Rattle.ms_base.specs.declared.policy.Policy.TheVariants.{Balanced, Aggressive, None as NonePolicy}
 use Rattle.ms_loaders.specs.declared.details.Detail.{Detail}
 use Rattle.ms_loaders.specs.declared.details.Detail.TheVariants.{Basic, Full}
-use Rattle.metarun.specs.Asked.{ReadsDetail, ReadsNumber, ReadsPolicy}
+use Rattle.metarun.specs.Asked.{ReadsDetail, ReadsNumber, ReadsPolicy, number_of}
 
--- The digits of a number are read as that number.
-pub decimal_is_read : (E : Type 0) (gives : List ℕ → Result ℕ E → Type 0) (number : ℕ) (read : Option ℕ)
-    → number < 2 ^ 64
-    → ((text : List ℕ) (parsed : Result ℕ E) → gives text parsed → ParsesUnsigned 64 10 text parsed)
-    → ReadsOne gives (decimal number) read → read ≡ Some number
-decimal_is_read E gives number (Some value) small parses reads =
-    ap (λ (parsed : Result ℕ E). result_ok parsed)
-    (parse-decimal 64 number (decimal number) (Ok value) small small refl
-    (parses (decimal number) (Ok value) reads))
-decimal_is_read E gives number None small parses reads =
-    ap (λ (parsed : Result ℕ E). result_ok parsed)
-    (parse-decimal 64 number (decimal number) (Err reads.0) small small refl
-    (parses (decimal number) (Err reads.0) reads.1))
+-- A numeral, after a plus or without one, is read as the number that it writes.
+pub numeral_is_read : (E : Type 0) (gives : List ℕ → Result ℕ E → Type 0) (text : List ℕ) (read : Option ℕ)
+    → IsNumeral 10 (without_leading_plus text) → number_of text < 2 ^ 64
+    → ((parsed : Result ℕ E) → gives text parsed → ParsesUnsigned 64 10 text parsed)
+    → ReadsOne gives text read → read ≡ Some (number_of text)
+numeral_is_read E gives text (Some value) digits small parses reads =
+    ap (λ (n : ℕ). Some n) (parses (Ok value) reads).1
+numeral_is_read E gives text None digits small parses reads =
+    absurd (parses (Err reads.0) reads.1 (digits, small))
 
 -- A number and a policy that were not given.
 pub number_unasked : (rows : List Row) (id : Text) (least most default number : ℕ) → one_of id rows ≡ None
     → number ≡ default → ReadsNumber rows id least most default number
 number_unasked rows id least most default number none is = record {
   absent = λ _. is;
-  given = λ asked text low high. absurd (none-some (decimal asked) (sym none ∙ text));
+  given = λ text found accepted. absurd (none-some text (sym none ∙ found));
 }
 
 pub policy_unasked : (rows : List Row) (chosen : Policy) → first_of (codes "policy") rows ≡ None

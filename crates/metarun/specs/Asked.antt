@@ -1,7 +1,8 @@
 -- What a command line may ask for (this project's choice).
 use Rattle.std.specs.Prelude.{◌≡◌, ◌≤◌, ℕ, Bool, List, true, false, Some, None, codes, ⊤}
-use Rattle.std.specs.Fmt.{decimal}
-use Rattle.clap.specs.Words.{App, Row, Text, first_of, matches_of, one_of}
+use Rattle.std.specs.Prelude.{string_bytes}
+use Rattle.std.specs.Str.Parse.{digits_value, without_leading_plus}
+use Rattle.clap.specs.Words.{App, IsUnsignedIn, Row, Text, first_of, matches_of, one_of}
 use Rattle.ms_base.specs.declared.policy.Policy.{Policy}
 use Rattle.ms_base.specs.declared.policy.Policy.TheVariants as policy
 use Rattle.ms_loaders.specs.declared.details.Detail.{Detail}
@@ -9,7 +10,7 @@ use Rattle.ms_loaders.specs.declared.details.Detail.TheVariants.{Basic, Full}
 use Rattle.metarun.specs.CommandLine.{IsCommandLine}
 use Rattle.metarun.specs.declared.options.Options.{Options}
 use Rattle.metarun.specs.declared.options.Refused.{Refused}
-use Rattle.metarun.specs.declared.options.Refused.TheVariants.{Told}
+use Rattle.metarun.specs.declared.options.Refused.TheVariants.{Help, OutOfMemory, Usage}
 
 -- The numbers lie in their ranges, and only one worker tells addresses.
 pub record IsAllowed (options : Options) : Type 0 where
@@ -33,11 +34,15 @@ pub record IsDefault (options : Options) : Type 0 where
   pub addresses : options.addresses ≡ false
   pub detail : options.detail ≡ Basic
 
--- A number is the one given to an option where that lies in its range, and the default where none
--- was.
+-- The number that a text writes in digits, after a plus or without one.
+abbrev pub number_of : Text → ℕ
+number_of text = digits_value 10 (without_leading_plus text)
+
+-- A number is the one that is written in an option's value, which `clap` accepts where it lies in
+-- the range, and the default where none was given.
 pub record ReadsNumber (rows : List Row) (id : Text) (least most default number : ℕ) : Type 0 where
   pub absent : one_of id rows ≡ None → number ≡ default
-  pub given : (asked : ℕ) → one_of id rows ≡ Some (decimal asked) → least ≤ asked → asked ≤ most → number ≡ asked
+  pub given : (text : Text) → one_of id rows ≡ Some text → IsUnsignedIn least most text → number ≡ number_of text
 
 -- A flag is on where it was given, and off where it was not.
 pub record ReadsFlag (rows : List Row) (id : Text) (on : Bool) : Type 0 where
@@ -77,5 +82,11 @@ pub record AreAsked (words : List Text) (options : Options) : Type 0 where
 
 -- What `metarun` has for standard output in place of a run.
 abbrev pub IsTold : Refused → Type 0
-IsTold (Told text) = ⊤
+IsTold (Help text) = ⊤
 IsTold _ = ⊥
+
+-- What it has for standard error where several workers are asked for addresses, memory aside.
+abbrev pub SaysAlone : Refused → Type 0
+SaysAlone (Help text) = ⊥
+SaysAlone (Usage text) = string_bytes text ≡ codes "metarun: --addresses needs --workers 1\n"
+SaysAlone OutOfMemory = ⊤

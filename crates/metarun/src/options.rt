@@ -6,12 +6,13 @@
 //! for is the default. `clap` reads the words and writes the texts of refusals and of the help.
 //! Only `options_of` takes memory.
 ghost use Rattle.std.specs.Prelude.{◌≡◌, ◌≢◌, ◌≤◌, ◌<◌, ◌^◌, ℕ, IfOk, IfErr, IsOkAnd, None, Some};
-ghost use Rattle.std.specs.Prelude.{codes, decimal};
+ghost use Rattle.std.specs.Prelude.{codes};
+ghost use Rattle.std.specs.Str.Parse.{IsNumeral, without_leading_plus};
 ghost use Rattle.std.specs.Prelude.{length, map, false};
-ghost use Rattle.clap.specs.Words.{App, app_of, found_of, kind_of, new_rule, one_of, rows_of};
+ghost use Rattle.clap.specs.Words.{App, Text, app_of, found_of, kind_of, new_rule, one_of, rows_of};
 ghost use Rattle.clap.specs.Words.{rule_of, with_rule};
-ghost use Rattle.metarun.specs.Asked.{IsAllowed, IsDefault, IsTold, AreRead, AreAsked};
-ghost use Rattle.metarun.specs.Asked.{ReadsDetail, ReadsFlag, ReadsNumber, ReadsPolicy};
+ghost use Rattle.metarun.specs.Asked.{IsAllowed, IsDefault, IsTold, AreRead, AreAsked, SaysAlone};
+ghost use Rattle.metarun.specs.Asked.{ReadsDetail, ReadsFlag, ReadsNumber, ReadsPolicy, number_of};
 ghost use Rattle.metarun.specs.CommandLine.{IsCommandLine, IsShown, AskToBeTold, IsPolicyRule};
 ghost use Rattle.metarun.specs.CommandLine.{IsReportRule};
 ghost use Rattle.metarun.specs.CommandLine.{number_rule, addresses_rule, named};
@@ -47,20 +48,18 @@ impl Options {
 #[derive(Drop)]
 pub enum Refused {
     /// Help or the version was asked for; this is its text, for standard output.
-    Told(String),
+    Help(String),
     /// The line is refused; this text says why, for standard error.
     Usage(String),
-    /// Addresses are asked for of more than one worker.
-    Addresses,
     /// A growth was refused.
     OutOfMemory,
 }
 
 /// Reads a command line, whose first word is the program's name. Granules count 8192 words each,
-/// 2048 under policy aggressive; nodes count 1048576 words each. `Told` comes where the first of
+/// 2048 under policy aggressive; nodes count 1048576 words each. `Help` comes where the first of
 /// the faults is a use of `--help` or of `--version`, `Usage` for an unknown or repeated option, a
-/// missing value, or one out of its range, `Addresses` where blocks' addresses are asked for of
-/// more than one worker, since a schedule decides them. Takes memory. This project's choice.
+/// missing value, or one out of its range, and where blocks' addresses are asked for of more than
+/// one worker, since a schedule decides them. Takes memory. This project's choice.
 pub fn options_of<'a, S: AsStr>(alloc: Global, words: &'a [S]) -> Result<Options, Refused>
     ensures allowed { IfOk result IsAllowed }
     ensures default { length words.entry.now ≤ 1 → IsOkAnd result IsDefault }
@@ -76,7 +75,7 @@ pub fn options_of<'a, S: AsStr>(alloc: Global, words: &'a [S]) -> Result<Options
         Err(_) => return Err(Refused::OutOfMemory),
     };
     match command.try_get_matches_from(words) {
-        Ok(matches) => chosen(&matches),
+        Ok(matches) => chosen(alloc, &matches),
         Err(error) => Err(reason_of(alloc, &error)),
     }
 }
@@ -90,23 +89,36 @@ fn reason_of(alloc: Global, error: &clap::Error) -> Refused
     };
     match error.kind() {
         ErrorKind::OutOfMemory => Refused::OutOfMemory,
-        ErrorKind::DisplayHelp | ErrorKind::DisplayVersion => Refused::Told(text),
+        ErrorKind::DisplayHelp | ErrorKind::DisplayVersion => Refused::Help(text),
         _ => Refused::Usage(text),
     }
 }
 
+/// The line on standard error where addresses are asked for of several workers.
+const ADDRESSES_ALONE: &str = "metarun: --addresses needs --workers 1\n";
+
+/// Refuses addresses of several workers.
+fn addresses_refused(alloc: Global) -> Refused
+    ensures { SaysAlone result }
+{
+    match String::from_str(alloc, ADDRESSES_ALONE) {
+        Ok(text) => Refused::Usage(text),
+        Err(_) => Refused::OutOfMemory,
+    }
+}
+
 /// Collects what was chosen. Only one worker may tell addresses.
-fn chosen(matches: &ArgMatches) -> Result<Options, Refused>
+fn chosen(alloc: Global, matches: &ArgMatches) -> Result<Options, Refused>
     ensures allowed { IfOk result IsAllowed }
     ensures read { IfOk result (AreRead (rows_of (found_of matches.now))) }
-    ensures refused { IfErr result (λ refused. refused ≡ Refused.Addresses) }
+    ensures refused { IfErr result SaysAlone }
     ensures many { IfErr result
         (λ refused. one_of (codes "addresses") (rows_of (found_of matches.now)) ≢ None) }
 {
     let workers = number_in(matches, "workers", 1, 8, 1) as u32;
     let addresses = flag_in(matches, "addresses");
     if addresses && workers > 1 {
-        return Err(Refused::Addresses);
+        return Err(addresses_refused(alloc));
     }
     Ok(Options {
         settings: Settings {
@@ -121,7 +133,7 @@ fn chosen(matches: &ArgMatches) -> Result<Options, Refused>
     })
 }
 
-/// Tells the number that was given, or the default where there is none: `clap` accepts no number
+/// Reads the number that was given, or the default where there is none: `clap` accepts no number
 /// out of the range.
 fn number_in(matches: &ArgMatches, id: &str, least: u64, most: u64, default: u64) -> u64
     requires low { least ≤ default }
@@ -136,12 +148,12 @@ fn number_in(matches: &ArgMatches, id: &str, least: u64, most: u64, default: u64
     }
 }
 
-/// Tells the number that was given, where there is one.
+/// Reads the number that was given, where there is one: its digits, after a plus or without one.
 fn number_given(matches: &ArgMatches, id: &str) -> Option<u64>
     ensures absent { one_of id.now (rows_of (found_of matches.now)) ≡ None → result ≡ None }
-    ensures given { (number : ℕ) → number < 2 ^ 64
-        → one_of id.now (rows_of (found_of matches.now)) ≡ Some (decimal number)
-        → result ≡ Some number }
+    ensures given { (text : Text) → one_of id.now (rows_of (found_of matches.now)) ≡ Some text
+        → IsNumeral 10 (without_leading_plus text) → number_of text < 2 ^ 64
+        → result ≡ Some (number_of text) }
 {
     matches.get_one::<u64>(id)
 }

@@ -23,9 +23,10 @@ use std::thread::Threads;
 /// answers the exit status.
 ///
 /// 0: each line of the trace is answered, or the help or the version was written. 2: the command
-/// line is refused, told on `errors`, and nothing was read or written to `output`. The other
-/// statuses are those of a session; 3 and 5 also come where help lacks memory or could not be
-/// written. This project's choice.
+/// line is refused, told on `errors`, and nothing was read. The other statuses are those of a
+/// session; 3 also comes where the text of a refused command line, of the help or of the version
+/// lacks memory, and 5 where help or version could not be written. With 1, 2 and 3 nothing was
+/// written to `output`. This project's choice.
 pub fn start<T: Threads + Wait + Sync, S: AsStr, R: Read, W: Write, E: Write>(
     rt: &T,
     alloc: Global,
@@ -49,8 +50,10 @@ pub fn start<T: Threads + Wait + Sync, S: AsStr, R: Read, W: Write, E: Write>(
         ⊎ IsStopped (map S.text words.now) (R.remaining input.old) (R.remaining input.new)
         (W.contents output.old) (W.contents output.new) }
     ensures unread { result ≡ 2 → R.remaining input.new ≡ R.remaining input.old }
-    ensures untouched { result ≡ 2 → Keeps (W.contents output.old) (W.contents output.new) }
+    ensures untouched { (result ≡ 1) ⊎ (result ≡ 2) ⊎ (result ≡ 3)
+        → Keeps (W.contents output.old) (W.contents output.new) }
     ensures statuses { result ≤ 5 }
+    ensures settled { result ≢ 4 }
 {
     match options_of(alloc, words) {
         Ok(options) => session(rt, alloc, &options, input, output, errors),
@@ -58,29 +61,24 @@ pub fn start<T: Threads + Wait + Sync, S: AsStr, R: Read, W: Write, E: Write>(
     }
 }
 
-/// The line on standard error where addresses are asked for of several workers.
-const ADDRESSES_ALONE: &str = "metarun: --addresses needs --workers 1\n";
-
 /// Tells why there are no options: help and version on `output`, all else on `errors`; answers the
 /// exit status.
 fn tell<W: Write, E: Write>(refused: Refused, output: &mut W, errors: &mut E) -> u8
     ensures told { (result ≡ 0) ⊎ (result ≡ 5) → IsTold refused }
     ensures no_fault { result ≢ 1 }
-    ensures untouched { result ≡ 2 → Keeps (W.contents output.old) (W.contents output.new) }
+    ensures settled { result ≢ 4 }
+    ensures untouched { (result ≡ 2) ⊎ (result ≡ 3)
+        → Keeps (W.contents output.old) (W.contents output.new) }
     ensures statuses { result ≤ 5 }
 {
     match refused {
-        Refused::Told(text) => match write_text(output, text.as_bytes()) {
+        Refused::Help(text) => match write_text(output, text.as_bytes()) {
             Ok(()) => 0,
             Err(_) => Failure::Output.tell(errors),
         },
         Refused::Usage(text) => {
             // Whether the text comes out changes no status.
             let _ = write_text(errors, text.as_bytes());
-            2
-        }
-        Refused::Addresses => {
-            let _ = write_text(errors, ADDRESSES_ALONE.as_bytes());
             2
         }
         Refused::OutOfMemory => Failure::OutOfMemory.tell(errors),

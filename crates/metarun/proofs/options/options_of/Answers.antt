@@ -1,6 +1,7 @@
 use Rattle.std.proofs.Common.{rules}
 use Rattle.clap.specs.Words.{app_of, found_of, kind_of, rows_of}
 use Rattle.metarun.proofs.CommandLineLemmas.{is_matched, is_judged, first_is_shown, default_is_asked, chosen_is_asked}
+use Rattle.metarun.proofs.CommandLineLemmas.{alone_is_no_help}
 use Rattle.metarun.proofs.options.options_of.Goals as goal
 
 pub returns-then-words-le1-clause-asked : goal.returns-then-words-le1-clause-asked
@@ -13,6 +14,9 @@ returns-in-Ok-try_get_matches_from-clause-asked g c =
     c.in-Ok.ensures
     (c.in-Ok-try_get_matches_from.ensures.matches (is_matched (app_of c.in-Ok.command) c.in-Ok.ensures)).0
     c.chosen.ensures.allowed c.chosen.ensures.read
+
+pub returns-in-Ok-try_get_matches_from-clause-told : goal.returns-in-Ok-try_get_matches_from-clause-told
+returns-in-Ok-try_get_matches_from-clause-told g c = alone_is_no_help _ c.chosen.result c.chosen.ensures.refused
 
 pub returns-in-Err-try_get_matches_from-clause-told : goal.returns-in-Err-try_get_matches_from-clause-told
 returns-in-Err-try_get_matches_from-clause-told g c = λ told.
