@@ -7,7 +7,8 @@ use ms_base::{Refusal, Reply, Settings};
 use ms_loaders::{Answer as Answered, LoaderDetails, Replies, Totals};
 use ms_pool::RootMap;
 use ms_report::{
-    Detail, Kinds, Refusals, Usages, full_text, lines, map_text, sum_kinds, tally, text, weigh,
+    Detail, Kinds, Refusals, Usages, full_text, lines_detailed, map_text, sum_kinds, tally, text,
+    weigh,
 };
 use std::alloc::{AllocError, Global};
 use std::io;
@@ -207,7 +208,7 @@ impl Row for Replying {
     fn call(&mut self, rt: &HostRuntime) -> Answer {
         tell_text(
             rt,
-            lines(
+            lines_detailed(
                 self.alloc,
                 &self.replies,
                 true,

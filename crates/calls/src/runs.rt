@@ -2,7 +2,7 @@
 use crate::row::{say, tell};
 use ms_base::{Policy, Refusal, Reply, Settings};
 use ms_loaders::{Answer, Replies, Totals};
-use ms_run::{Detail, NoGate, replay};
+use ms_run::{Detail, NoGate, replay_detailed};
 use ms_trace::{ParseFault, Trace, parse};
 use std::io::{self, ErrorKind, Read};
 use std::sync::Wait;
@@ -56,7 +56,7 @@ fn tell_call<R: Threads + Wait + Sync>(
     trace: &Trace,
     settings: Settings,
 ) -> bool {
-    match replay(waits, rt.alloc(), trace, settings, Detail::Full, &NoGate) {
+    match replay_detailed(waits, rt.alloc(), trace, settings, Detail::Full, &NoGate) {
         Ok(replies) => {
             let is_wanted = tell_replies(rt, word, settings.workers == 1, &replies);
             drop(replies);

@@ -2,7 +2,7 @@
 //! settled to one system, and the workers change places. Whatever the schedule, each line is
 //! answered so; the words in use are those of the loader that is left.
 use ms_base::{Policy, Reply, Settings};
-use ms_run::{Detail, NoGate, replay};
+use ms_run::{NoGate, replay};
 use ms_trace::parse;
 use std::io;
 use std::sync::Wait;
@@ -24,7 +24,7 @@ pub(crate) fn show<R: Threads + Wait + Sync>(rt: &HostRuntime, waits: &R) -> io:
     let Ok(trace) = parse(rt.alloc(), TRACE) else {
         return println!(rt; "the trace is not read");
     };
-    let Ok(replies) = replay(waits, rt.alloc(), &trace, settings, Detail::Basic, &NoGate) else {
+    let Ok(replies) = replay(waits, rt.alloc(), &trace, settings, &NoGate) else {
         return println!(rt; "memory or a thread is wanting");
     };
     for answer in &replies.answers {

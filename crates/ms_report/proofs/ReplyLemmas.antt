@@ -1,14 +1,18 @@
 -- One answer more: its line, its report, and the refusals with it. Used by `answer_text`.
 use Rattle.std.proofs.Common.{◌≡◌, ◌<◌, ◌≤◌, ◌+◌, ℕ, Bool, true, false, List, [], ◌∷◌, ◌++◌, length, cond}
-use Rattle.std.proofs.Common.{sym, ap, ◌∙◌, refl, arith, append-nil}
+use Rattle.std.proofs.Common.{sym, ap, ap₂, ◌∙◌, refl, arith, append-nil, Option, Some, None}
 use Rattle.std.specs.Prelude.{codes, decimal}
 use Rattle.std.proofs.Math.Path.{fun_ext}
 use Rattle.std.proofs.lemmas.List.{map-append, append_assoc, length-append}
 use Rattle.std.proofs.lemmas.List.Sums.{sum_by_push}
-use Rattle.ms_base.specs.ReplyText.{reply_text}
+use Rattle.std.specs.Prelude.{Box}
+use Rattle.std.specs.declared.alloc.Global.{Global}
+use Rattle.ms_base.specs.ReplyText.{reply_line, reply_text}
 use Rattle.ms_base.specs.declared.settings.Settings.{Settings}
 use Rattle.ms_base.specs.declared.step.Reply.{Reply}
 use Rattle.ms_loaders.specs.declared.details.Detail.{Detail}
+use Rattle.ms_loaders.specs.declared.details.Detail.TheVariants.{Basic}
+use Rattle.ms_loaders.specs.declared.totals.Totals.{Totals}
 use Rattle.ms_loaders.specs.declared.replies.Answer.{Answer}
 use Rattle.ms_report.specs.AnswerText.{AnswerTextView, Tells, no_answer}
 use Rattle.ms_report.specs.Refused.{AreFew, by_name, is_refused_as, refusals_of, with_reply}
@@ -42,6 +46,24 @@ text_more addresses detail settings before (one ∷ answers) answer =
 
     others : List ℕ
     others = later_text addresses detail settings (before ++ one.reply ∷ []) answers
+
+-- Basic reports are the same whatever the settings are.
+pub basic_alike : (addresses : Bool) (one other : Settings) (answers : List Answer)
+    → answers_text addresses Basic one answers ≡ answers_text addresses Basic other answers
+basic_alike addresses one other = later_alike []
+  where
+    report_alike : (refusals : Refusals) (report : Option (Box Totals Global))
+        → report_after Basic one refusals report ≡ report_after Basic other refusals report
+    report_alike refusals None = refl
+    report_alike refusals (Some totals) = refl
+
+    later_alike : (before : List Reply) (answers : List Answer)
+        → later_text addresses Basic one before answers ≡ later_text addresses Basic other before answers
+    later_alike before [] = refl
+    later_alike before (answer ∷ answers) = ap₂ (λ (line rest : List ℕ). line ++ rest)
+        (ap (λ (report : List ℕ). reply_line addresses answer.line answer.reply ++ report)
+        (report_alike (refusals_of before) answer.report))
+        (later_alike (before ++ answer.reply ∷ []) answers)
 
 -- A text of no answer tells none, and one that gains an answer's text tells it too.
 pub tells_none : (addresses : Bool) (detail : Detail) (settings : Settings)

@@ -6,6 +6,7 @@
 //! No answer has to be kept until all are there. Kept true: no more answers are counted than the
 //! text has bytes, so no count wraps. Stands on `reply_lines`. Takes memory for the text alone.
 ghost use Rattle.std.specs.Prelude.{◌≡◌, ◌++◌, ◌∷◌, [], List, IfOk, OnErr, OnOk, string_bytes};
+ghost use Rattle.ms_base.specs.declared.settings.Settings.{Settings as SettingsOf};
 ghost use Rattle.ms_loaders.specs.declared.replies.Answer.{Answer as AnswerOf};
 ghost use Rattle.ms_report.specs.AnswerText.{AnswerTextView, Tells, no_answer};
 ghost use Rattle.ms_report.specs.ReplyLines.{answers_text};
@@ -124,10 +125,20 @@ impl AnswerSink for AnswerText {
 
 /// Writes a line for each answer, in their order: the number of the trace's line, a space, the
 /// reply. Where a block starts, a word number, is told only if addresses are asked for. After an
-/// answer with totals comes their report, with as much detail as is asked for; the settings are
-/// those of the run, and the answers before it are those in which refused lines are counted. Takes
-/// memory for the text; an error means that a growth was refused. This project's choice.
-pub fn lines(
+/// answer with totals comes their basic report, which no setting changes. Takes memory for the
+/// text; an error means that a growth was refused. This project's choice.
+pub fn lines(alloc: Global, replies: &Replies, addresses: bool) -> Result<String, AllocError>
+    ensures { IfOk result (λ text. (settings : SettingsOf) → string_bytes text
+        ≡ answers_text addresses Detail.Basic settings replies.now.answers.items) }
+{
+    lines_detailed(alloc, replies, addresses, Detail::Basic, &Settings::DEFAULT)
+}
+
+/// Writes lines as `lines` does, with reports in as much detail as is asked for. The settings are
+/// those of the run, which a full report has; the answers before it are those in which it counts
+/// refused lines. Takes memory for the text; an error means that a growth was refused. This
+/// project's choice.
+pub fn lines_detailed(
     alloc: Global,
     replies: &Replies,
     addresses: bool,

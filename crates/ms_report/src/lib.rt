@@ -31,7 +31,7 @@ mod setup;
 mod sizes;
 mod usage;
 
-pub use answer_text::{AnswerText, lines};
+pub use answer_text::{AnswerText, lines, lines_detailed};
 pub use collecting::totals;
 pub use detailed::full_text;
 pub use kinds::{KindTotals, Kinds, sum_kinds};

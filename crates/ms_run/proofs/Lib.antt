@@ -10,6 +10,7 @@ mod AnsweredLemmas
 mod ShareSumLemmas
 mod PhaseSettleLemmas
 mod TurnLemmas
+mod ActiveLemmas
 mod OrderLemmas
 mod machine
 mod WorkedLemmas

@@ -14,3 +14,4 @@ pub mod TakenApartLemmas
 pub mod StandByLemmas
 pub mod ThreadLemmas
 pub mod WorkLemmas
+pub mod ByTurnLemmas

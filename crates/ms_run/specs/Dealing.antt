@@ -1,6 +1,6 @@
 -- Loaders handed on from seat to seat, and the shares that come of it.
 use Rattle.std.specs.Prelude.{◌≡◌, ◌≢◌, ℕ, suc, ◌+◌, ◌<◌, ◌≤◌, ◌==◌, ◌⊎◌, true, false, List, [], ◌∷◌, length, map}
-use Rattle.std.specs.Prelude.{replicate, Some, None, Vec, slice_get, ◌++◌}
+use Rattle.std.specs.Prelude.{replicate, Some, None, Vec, slice_get, slice_index_or, ◌++◌}
 use Rattle.std.specs.List.{All, count_by, filter}
 use Rattle.std.specs.declared.alloc.Global.{Global}
 use Rattle.ms_base.specs.Committed.{is_among}
@@ -102,6 +102,12 @@ pub record AreDealtTo (place : Place) (shared : LockState) (count : ℕ) (lines 
     (shares : List Share) : Type 0 where
   pub count_is : length shares ≡ count
   pub each : ((name : ℕ) → place (Some name) < count) → AreSharesFrom place shared lines loaders 0 shares
+
+-- Shares of the places from a number on are the workers' that stand there.
+abbrev pub AreWorkersFrom : List ℕ → ℕ → List Share → Type 0
+AreWorkersFrom active at [] = Unit {0}
+AreWorkersFrom active at (share ∷ shares) =
+    (share.worker ≡ slice_index_or active at 0) × AreWorkersFrom active (suc at) shares
 
 -- Lists of tasks by share.
 abbrev pub TaskLists : Type 0

@@ -126,6 +126,12 @@ abbrev pub HaveTasks : Place → List Share → List Line → Type 0
 HaveTasks place shares lines =
     (at : ℕ) (share : Share) → slice_get shares at ≡ Some share → share.tasks.items ≡ tasks_at place at lines
 
+-- Each share has only tasks whose worker works it.
+abbrev pub AreWorkedByTurn : (Option ℕ → ℕ) → List Share → Type 0
+AreWorkedByTurn worker shares =
+    (at : ℕ) (share : Share) → slice_get shares at ≡ Some share
+    → All (λ (task : Task). share.worker ≡ worker (loader_of task.step)) share.tasks.items
+
 -- Each share's seat has the number of its place.
 abbrev pub AreNumbered : List Share → Type 0
 AreNumbered shares = (at : ℕ) (share : Share) → slice_get shares at ≡ Some share → share.seat.number ≡ at

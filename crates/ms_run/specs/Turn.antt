@@ -1,6 +1,10 @@
 -- Whose turn it is in a phase.
 use Rattle.std.specs.Prelude.{◌≡◌, ℕ, Bool, false, cond, ◌+◌, ◌-◌, ◌%◌, ◌==◌, ◌<◌, ◌≤◌, List, length, min, Option, Some, None}
-use Rattle.std.specs.Prelude.{slice_get, slice_index_or, slice_set}
+use Rattle.std.specs.Prelude.{slice_get, slice_index_or, slice_set, ⊤, [], ◌∷◌, ◌++◌}
+use Rattle.std.specs.List.{All}
+use Rattle.ms_base.specs.declared.step.Step.{Step}
+use Rattle.ms_base.specs.Request.{loader_of}
+use Rattle.ms_trace.specs.Steps.{step_of}
 use Rattle.ms_base.specs.Committed.{is_among}
 use Rattle.ms_trace.specs.declared.trace.Line.{Line}
 use Rattle.ms_run.specs.Workers.{loaders_in}
@@ -35,6 +39,21 @@ place_of turn worker = min (slice_index_or turn.places worker 0) (shares_in turn
 -- The place of the share that has the lines of a loader, and of a purge.
 abbrev pub place_in : TurnState → Option ℕ → ℕ
 place_in turn name = place_of turn (worker_in turn name)
+
+-- The share that has a step is one of the worker whose turn it is.
+abbrev pub HasOwnShare : TurnState → Option Step → Type 0
+HasOwnShare turn None = ⊤
+HasOwnShare turn (Some step) =
+    slice_index_or turn.active (place_in turn (loader_of step)) 0 ≡ worker_in turn (loader_of step)
+
+-- Each line that asks a step has a share of its own worker.
+abbrev pub HaveOwnShares : TurnState → List Line → Type 0
+HaveOwnShares turn lines = All (λ (line : Line). HasOwnShare turn (step_of line.command)) lines
+
+-- A worker that has no share yet gets one after the others, and its place is told.
+pub record AddsWorker (active places : List ℕ) (worker : ℕ) (new_active new_places : List ℕ) : Type 0 where
+  pub active_is : new_active ≡ cond (is_among active worker) active (active ++ worker ∷ [])
+  pub places_is : new_places ≡ cond (is_among active worker) places (slice_set places worker (length active))
 
 -- There is a share, and at most eight are.
 pub record IsTurn (turn : TurnState) : Type 0 where

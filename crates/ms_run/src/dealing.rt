@@ -11,12 +11,12 @@
 //! waits.
 ghost use Rattle.std.specs.Prelude.{◌≡◌, ◌+◌, ◌++◌, ◌∷◌, [], ◌≤◌, map, IfOk, OnOk, vec_len};
 ghost use Rattle.std.specs.Prelude.{vec_capacity, ◌<◌};
-ghost use Rattle.std.specs.Prelude.{◌≢◌, ℕ, IsTrue, Some, slice_get};
+ghost use Rattle.std.specs.Prelude.{◌≢◌, ℕ, IsTrue, Some, slice_get, slice_index_or};
 ghost use Rattle.std.specs.Option.{is_some};
 ghost use Rattle.ms_base.specs.declared.kind.Space.TheVariants.{NonClass, Class};
 ghost use Rattle.ms_base.specs.Names.{named};
 ghost use Rattle.ms_base.specs.Request.{loader_of};
-ghost use Rattle.ms_run.specs.Turn.{shares_in, place_in};
+ghost use Rattle.ms_run.specs.Turn.{HaveOwnShares, shares_in, place_in, worker_in};
 ghost use Rattle.ms_loaders.specs.Loader.{account_in};
 ghost use Rattle.ms_loaders.specs.System.{AreTogether};
 ghost use Rattle.ms_loaders.specs.Used.{used_in};
@@ -26,7 +26,8 @@ ghost use Rattle.ms_run.specs.Metering.{used_over, meter_of};
 ghost use Rattle.ms_run.specs.Shares.{AreDealt, AreSteps, tasks_of, names_in, name_with, place_for};
 ghost use Rattle.ms_run.specs.Dealing.{AreCrews, AreListed, AreEmpty, AreAdded, IsHanded};
 ghost use Rattle.ms_run.specs.Dealing.{AreHanded, AreSeats};
-ghost use Rattle.ms_run.specs.Dealing.{AreDealtTo, HaveMeters, IsSameSeat};
+ghost use Rattle.ms_run.specs.Dealing.{AreDealtTo, AreWorkersFrom, HaveMeters, IsSameSeat};
+ghost use Rattle.ms_run.specs.Shares.{AreWorkedByTurn};
 
 use crate::gathering::put_loader;
 use crate::share::{Share, Task};
@@ -56,6 +57,8 @@ pub fn deal(
 ) -> Result<(SharedPool, Vec<Share>, UsedMeter), AllocError>
     requires together { AreTogether pool loaders }
     requires steps { AreSteps lines.now }
+    requires shared { HaveOwnShares turn.now lines.now }
+    ensures workers { IfOk result (λ made. AreWorkedByTurn (worker_in turn.now) made.1.items) }
     ensures dealt { IfOk result (λ made. AreDealt (place_for (place_in turn.now) lines.now)
         made.0 made.1.items lines.now loaders) }
     ensures count { IfOk result (λ made. vec_len made.1 ≡ shares_in turn.now) }
@@ -80,6 +83,7 @@ fn deal_metered(
 ) -> Result<(Vec<Share>, UsedMeter), AllocError>
     requires count { vec_len seats ≡ shares_in turn.now }
     requires seats { AreSeats shared.now seats.items loaders }
+    ensures workers { IfOk result (λ made. AreWorkersFrom turn.now.active 0 made.0.items) }
     ensures dealt { IfOk result (λ made.
         AreDealtTo (place_for (place_in turn.now) lines.now) shared.now (vec_len seats) lines.now
         loaders
@@ -123,6 +127,7 @@ fn deal_to(
     requires count { vec_len seats ≡ shares_in turn.now }
     requires seats { AreSeats shared.now seats.items loaders }
     requires meters { vec_len meters ≡ vec_len seats }
+    ensures workers { IfOk result (λ shares. AreWorkersFrom turn.now.active 0 shares.items) }
     ensures dealt { IfOk result (λ shares.
         AreDealtTo (place_for (place_in turn.now) lines.now) shared.now (vec_len seats) lines.now
         loaders
@@ -173,6 +178,7 @@ fn share_beside(
     meter: MeterSeat,
 ) -> Result<Share, AllocError>
     requires { AreCrews shared.now first.old.seat first.old.loaders seat [] }
+    ensures worker { IfOk result (λ share. share.worker ≡ slice_index_or turn.now.active at 0) }
     ensures crews { IfOk result (λ share.
         AreCrews shared.now first.new.seat first.new.loaders share.seat share.loaders) }
     ensures handed { IfOk result (λ share.
@@ -201,6 +207,7 @@ fn make_share(
     crew: Crew,
     meter: MeterSeat,
 ) -> Result<Share, AllocError>
+    ensures worker { IfOk result (λ share. share.worker ≡ slice_index_or turn.now.active at 0) }
     ensures seat { IfOk result (λ share. share.seat ≡ crew.seat) }
     ensures meter { IfOk result (λ share. share.meter ≡ meter) }
     ensures loaders { IfOk result (λ share. share.loaders ≡ crew.loaders) }

@@ -29,4 +29,4 @@ mod working;
 pub use fault::RunFault;
 pub use gate::{Gate, NoGate};
 pub use ms_loaders::Detail;
-pub use replaying::{replay, replay_into};
+pub use replaying::{replay, replay_detailed, replay_into};

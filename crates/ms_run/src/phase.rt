@@ -17,7 +17,7 @@ ghost use Rattle.ms_shared.specs.MeterRule.{MeterSeatState};
 ghost use Rattle.ms_run.specs.Joined.{IsMadeFrom};
 ghost use Rattle.ms_run.specs.Shares.{AreApart, AreSteps, IsGathered, Place, StandOver};
 ghost use Rattle.ms_run.specs.Metering.{amount_of, meter_of, used_over, used_words_of};
-ghost use Rattle.ms_run.specs.Turn.{worker_in, IsSameTurn, TurnState};
+ghost use Rattle.ms_run.specs.Turn.{worker_in, HaveOwnShares, IsSameTurn, TurnState};
 
 use crate::alone::{Metered, answer_lines};
 use crate::dealing::deal;
@@ -106,6 +106,7 @@ fn run_shares<R: Threads + Wait + Sync, G: Gate + Sync, S: AnswerSink>(
     requires used { run.used ≡ used_words_of run.system }
     requires steps { AreSteps lines.now }
     requires kept { AreKept detail run.peaks }
+    requires shared { HaveOwnShares turn.now lines.now }
     ensures phase { (before : TurnState) → IsSameTurn before turn.now
         → IfOk result (λ after. Puts S.took
         (AreOfPhase detail (worker_in before) run lines.now after) sink.old sink.new) }

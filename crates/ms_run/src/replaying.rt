@@ -31,8 +31,8 @@ use std::alloc::{AllocError, Global};
 use std::sync::Wait;
 use std::thread::Threads;
 
-/// Replays a trace with as many workers as the settings say, and answers each of its lines, reports
-/// in so much detail.
+/// Replays a trace with as many workers as the settings say, and answers each of its lines; reports
+/// are basic.
 ///
 /// One worker is the caller itself, and runs all lines in their order. With two or more, a phase
 /// ends at each `sync`, at each `report` and at the end of the trace; loader number j, from 0 on by
@@ -42,6 +42,28 @@ use std::thread::Threads;
 /// that is refused for want of memory is answered so. Takes memory; with two workers or more it
 /// waits for the lock of the pool and for threads to end. This project's choice.
 pub fn replay<R: Threads + Wait + Sync, G: Gate + Sync>(
+    rt: &R,
+    alloc: Global,
+    trace: &Trace,
+    settings: Settings,
+    gate: &G,
+) -> Result<Replies, RunFault>
+    ensures own { IfOk result (λ replies. IsReplay (limits_of settings) settings.workers
+        trace.now.lines replies.answers.items) }
+    ensures run { settings.workers ≡ 1 → IfOk result (λ replies. (last : Course) × Answers
+        (begun (empty_machine (limits_of settings))) trace.now.lines replies.answers.items last) }
+    ensures detailed { IfOk result (λ replies.
+        All (IsDetailed Detail.Basic) replies.answers.items) }
+    ensures wanting { IfErr result IsWanting }
+    ensures no_thread { settings.workers ≡ 1
+        → IfErr result (λ fault. fault ≡ RunFault.OutOfMemory) }
+{
+    replay_detailed(rt, alloc, trace, settings, Detail::Basic, gate)
+}
+
+/// Replays a trace as `replay` does, with reports in as much detail as is asked for. Takes memory,
+/// and waits as `replay` does. This project's choice.
+pub fn replay_detailed<R: Threads + Wait + Sync, G: Gate + Sync>(
     rt: &R,
     alloc: Global,
     trace: &Trace,

@@ -9,7 +9,7 @@ ghost use Rattle.std.specs.Prelude.{vec_len, vec_capacity, slice_index_or};
 ghost use Rattle.ms_base.specs.Request.{loader_of};
 ghost use Rattle.ms_trace.specs.declared.trace.Line.{Line as LineOf};
 ghost use Rattle.ms_run.specs.Turn.{IsTurn, shares_in, place_in, worker_by, AreFirst, IsNumbered};
-ghost use Rattle.ms_run.specs.Turn.{Assigns};
+ghost use Rattle.ms_run.specs.Turn.{AddsWorker, Assigns, HaveOwnShares};
 
 use ms_base::{Settings, Step};
 use ms_trace::{Command, Line};
@@ -46,7 +46,7 @@ impl Model for Turn {
 
     ghost Value = { TurnState };
 
-    ghost use Rattle.std.specs.Prelude.{◌<◌, ◌≤◌, length, vec_capacity};
+    ghost use Rattle.std.specs.Prelude.{◌≡◌, ◌<◌, ◌≤◌, length, vec_capacity};
 
     ghost view = { λ turn. record {
       first = turn.first.items;
@@ -58,7 +58,7 @@ impl Model for Turn {
 
     ghost invariant = { λ turn. (1 ≤ length turn.active.items) × (length turn.active.items ≤ 8)
         × (8 ≤ vec_capacity turn.active) × (1 ≤ turn.workers) × (turn.workers ≤ 8)
-        × (turn.phase < turn.workers) };
+        × (turn.phase < turn.workers) × (length turn.places.items ≡ 8) };
 }
 
 impl Turn {
@@ -82,8 +82,10 @@ impl Turn {
         })
     }
 
-    /// Finds the workers that have lines in this phase.
+    /// Finds the workers that have lines in this phase. Each then has a share, to which its lines
+    /// go.
     pub fn activate(&mut self, lines: &[Line])
+        ensures shares { HaveOwnShares self.new lines.now }
         ensures first { self.new.first ≡ self.old.first }
         ensures phase { self.new.phase ≡ self.old.phase }
         ensures workers { self.new.workers ≡ self.old.workers }
@@ -250,14 +252,22 @@ fn find_active(
     requires phase { phase < workers }
     requires few { workers ≤ 8 }
     requires room { 8 ≤ vec_capacity active.old }
+    requires places { length places.old ≡ 8 }
     ensures some { 1 ≤ vec_len active.new }
     ensures few { vec_len active.new ≤ 8 }
     ensures room { 8 ≤ vec_capacity active.new }
+    ensures shares { HaveOwnShares (record {
+      first = first.now;
+      phase = phase;
+      workers = workers;
+      active = active.new.items;
+      places = places.new;
+    }) lines.now }
 {
     active.clear();
     for line in lines {
         if active.len() == workers {
-            break;
+            return;
         }
         if let Command::Step(step) = line.command() {
             let worker = worker_at(first, phase, workers, loader_named(&step));
@@ -265,22 +275,21 @@ fn find_active(
         }
     }
     if active.is_empty() {
-        active.push_reserved(0);
+        add_active(active, places, 0);
     }
 }
 
 /// Adds a worker with its share's place, where it isn't there yet.
 fn add_active(active: &mut Vec<usize>, places: &mut [usize], worker: usize)
-    requires few { vec_len active.old ≤ 8 }
+    requires few { vec_len active.old < 8 }
     requires room { 8 ≤ vec_capacity active.old }
-    ensures few { vec_len active.new ≤ 8 }
+    requires within { worker < length places.old }
+    ensures added { AddsWorker active.old.items places.old worker active.new.items places.new }
     ensures room { 8 ≤ vec_capacity active.new }
 {
-    if MOST_WORKERS <= active.len() || active.contains(&worker) {
+    if active.contains(&worker) {
         return;
     }
-    if let Some(place) = places.get_mut(worker) {
-        *place = active.len();
-    }
+    places[worker] = active.len();
     active.push_reserved(worker);
 }

@@ -8,7 +8,7 @@ use ms_loaders::{
     Answer, ArenaTotals, Details, LoaderDetails, LoaderRow, Replies, SpaceTotals, Totals,
 };
 use ms_pool::{Place, RootMap};
-use ms_report::{Detail, full_text, lines, map_text, tally};
+use ms_report::{full_text, lines, map_text, tally};
 use std::alloc::{AllocError, Global};
 use std::process::Abort;
 
@@ -323,13 +323,7 @@ fn expect_lines(
     has_addresses: bool,
     begins: &str,
 ) -> Result<(), AllocError> {
-    let told = lines(
-        rt.alloc(),
-        replies,
-        has_addresses,
-        Detail::Basic,
-        &Settings::DEFAULT,
-    )?;
+    let told = lines(rt.alloc(), replies, has_addresses)?;
     let rest = told.as_str().strip_prefix(begins);
     same(rt, &rest, &Some(LINES));
     Ok(())

@@ -56,7 +56,7 @@ fn replayed<G: Gate + Sync>(
 {
     let trace = trace_of(rt, text);
     let settings = settings(workers);
-    let replayed = replay(rt, rt.alloc(), &trace, settings, Detail::Basic, gate);
+    let replayed = replay(rt, rt.alloc(), &trace, settings, gate);
     drop(trace);
     let replies = replayed.expect(rt, "no replies");
     let told = listed(rt.alloc(), &replies);

@@ -4,6 +4,7 @@ use Rattle.ms_run.specs.Shares.{AreWithin, place_for}
 use Rattle.ms_run.proofs.sharing.StandByLemmas.{within_still}
 use Rattle.ms_run.proofs.sharing.SeatsLemmas.{seats_are, seats_count}
 use Rattle.ms_run.proofs.sharing.DealLemmas.{are_dealt}
+use Rattle.ms_run.proofs.sharing.ByTurnLemmas.{worked_by_turn}
 use Rattle.ms_run.proofs.TurnLemmas.{place_within}
 use Rattle.ms_run.proofs.dealing.deal.Goals as goal
 
@@ -27,6 +28,11 @@ returns-clause-dealt c =
     (within_still (place_in c.args.turn.now) c.args.lines.now _ c.shares-count.ensures.turn.some
     (place_within c.args.turn.now c.shares-count.ensures.turn.some)))
     (c.in_ok-shared.ensures.lock ∙ sym counted)
+
+pub returns-clause-workers : goal.returns-clause-workers
+returns-clause-workers c =
+    worked_by_turn c.args.turn.now c.args.lines.now c.in_ok-shares.shares.items c.requires.shared
+    c.in_ok-shares.ensures.workers (returns-clause-dealt c).tasks
 
 pub returns-clause-count : goal.returns-clause-count
 returns-clause-count c =

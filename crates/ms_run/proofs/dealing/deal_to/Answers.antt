@@ -4,6 +4,7 @@ use Rattle.std.proofs.lemmas.List.{nil_from_length}
 use Rattle.ms_shared.specs.SeatView.{SeatState}
 use Rattle.ms_run.specs.Turn.{place_in}
 use Rattle.ms_run.specs.Shares.{place_for}
+use Rattle.ms_run.proofs.sharing.ByTurnLemmas.{workers_none, workers_pushed, workers_put}
 use Rattle.ms_run.proofs.sharing.StandByLemmas.{handed_at, same_tasks}
 use Rattle.ms_run.proofs.sharing.DealLemmas.{dealing_starts, dealing_on, dealing_ends, next_free}
 use Rattle.ms_run.proofs.sharing.SeatsLemmas.{beside_none}
@@ -32,6 +33,7 @@ loop-seat-init c = (
         c.remove-seat.new.self.ok.0,
         ap (λ (l : List SeatState). length l) c.into_iter-seat-iterator.ensures.into_iter_gives.0,
       )),
+  workers_none c.args.turn.now.active 1 c.in_ok-shares.shares.items c.in_ok-shares.ensures.items,
 )
 
 pub share_beside-requires : goal.share_beside-requires
@@ -91,7 +93,15 @@ loop-seat-preserved c = (
       c.in_ok-share.ensures.used
       c.remove-meter.ensures.value c.remove-meter.ensures.items refl
       c.in_ok-share.ensures.meter c.push_reserved.ensures.items,
+  workers_pushed c.args.turn.now.active (c.len-at.result + 1) c.loop-seat.shares.items _ c.in_ok-share.share
+      c.loop-seat.invariant.5 c.in_ok-share.ensures.worker (omega (arith, c.len-at.ensures, c.loop-seat.shares.ok.0))
+      c.push_reserved.ensures.items,
 )
+
+pub returns-clause-workers : goal.returns-clause-workers
+returns-clause-workers c = IfOk-weaker c.put_first.result _ _ (λ all is.
+    workers_put c.args.turn.now.active c.loop-seat.shares.items all.items c.in_ok-share-2.share c.loop-seat.invariant.5
+    c.in_ok-share-2.ensures.worker is) c.put_first.ensures.items
 
 pub returns-clause-dealt : goal.returns-clause-dealt
 returns-clause-dealt c = IfOk-weaker c.put_first.result _ _ (λ all is.

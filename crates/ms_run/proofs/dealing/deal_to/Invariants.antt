@@ -1,4 +1,5 @@
 use Rattle.std.proofs.Common.{◌≡◌, ◌≤◌, drop, vec_len, vec_capacity}
+use Rattle.ms_run.specs.Dealing.{AreWorkersFrom}
 use Rattle.ms_run.specs.Turn.{place_in}
 use Rattle.ms_run.specs.Shares.{place_for}
 use Rattle.ms_run.proofs.sharing.DealLemmas.{IsDealing}
@@ -16,3 +17,4 @@ invariant-loop-seat l =
     × (vec_len l.lists ≡ vec_len l.fn.seats)
     × IsShared l.fn.loaders (drop 1 l.fn.meters.items) l.first.loaders l.meters.items l.seat-iterator.rest.items
     l.shares.items
+    × AreWorkersFrom l.turn.active 1 l.shares.items

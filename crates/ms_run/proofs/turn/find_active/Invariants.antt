@@ -1,6 +1,8 @@
-use Rattle.std.specs.Prelude.{◌≤◌, vec_len, vec_capacity}
+use Rattle.std.specs.Prelude.{◌≤◌, take, vec_capacity}
+use Rattle.ms_run.proofs.ActiveLemmas.{AreFound}
 use Rattle.ms_run.proofs.turn.find_active.Given as goal
 
--- At most eight workers are there, and there is room for eight.
+-- There is room for eight workers, and those of the first lines are found.
 abbrev pub invariant-loop-line : goal.invariant-loop-line
-invariant-loop-line l = (vec_len l.active ≤ 8) × (8 ≤ vec_capacity l.active)
+invariant-loop-line l =
+    (8 ≤ vec_capacity l.active) × AreFound l.first l.phase l.workers (take l.line-index l.lines) l.active.items l.places

@@ -6,7 +6,7 @@ use Rattle.ms_loaders.specs.declared.replies.Answer.{Answer}
 use Rattle.ms_run.specs.Course.{begun}
 use Rattle.ms_run.specs.Replay.{Answers, IsDetailed, IsReplay}
 use Rattle.ms_run.proofs.AloneLemmas.{none_before}
-use Rattle.ms_run.proofs.replaying.replay.Goals as goal
+use Rattle.ms_run.proofs.replaying.replay_detailed.Goals as goal
 
 pub returns-clause-own : goal.returns-clause-own
 returns-clause-own g c =

@@ -1,6 +1,6 @@
 use Rattle.std.proofs.Common.{take}
 use Rattle.ms_report.specs.AnswerText.{Tells, no_answer}
-use Rattle.ms_report.proofs.answer_text.lines.Given as goal
+use Rattle.ms_report.proofs.answer_text.lines_detailed.Given as goal
 
 -- the text tells the first answers
 abbrev pub invariant-loop-answer : goal.invariant-loop-answer
