@@ -83,6 +83,7 @@ STEPPED = {
         "Ok / At(0) / Ok / At(524288) / At(528384)"),
 }
 OUTSIDE = b"refused outside a call\n"
+UNSEEN = b"nothing shows it"
 NO_MEMORY, NO_THREAD = b"fault OutOfMemory", b"fault NoThread"
 
 
@@ -167,7 +168,10 @@ class Runs:
         return self.calm[lines]
 
     def refused(self, number):
-        """Refuses a growth: tells the fault or the lines that wanted memory, and None where no growth was met."""
+        """Refuses a growth: tells the fault or the lines that wanted memory, and None where no growth was met.
+
+        A growth may be one that the run can do without: then nothing shows that it was refused.
+        """
         ended, counts = self.calls.run(self.text, REFUSE_AT=number)
         if ended.status == 3:
             expect(counts.refused > 0 and ended.errors == OUTSIDE, "status 3", ended.errors)
@@ -177,6 +181,9 @@ class Runs:
         if not counts.refused:
             expect((first, again) == (self.told_without(frozenset()), ([], [])), "nothing was refused", ended.output)
             return None
+        if again == ([], []):
+            expect(first == self.told_without(frozenset()), "a refusal changes what is told", ended.output)
+            return UNSEEN
         expect(again == self.told_without(frozenset()), "the call is answered otherwise again", ended.output)
         if len(first[0]) == 1 and first[0][0] in self.faults:
             return first[0][0]
@@ -203,10 +210,10 @@ class Runs:
                 break
             became.append(refused)
         expect(refused is None, "there was no end of growths")
-        faults, outside = sum(fault in self.faults for fault in became), became.count(OUTSIDE)
-        lines = len(became) - faults - outside
-        expect(faults > 0 and lines > 0, "no fault, or no line that wants memory", became)
-        return f"{len(became)} growths, {faults} of them the run's and {lines} a line's"
+        faults = sum(refused in self.faults for refused in became)
+        unseen, lines = became.count(UNSEEN), sum(isinstance(refused, frozenset) for refused in became)
+        expect(faults > 0 and lines > 0 and unseen < lines, "no fault, or no line that wants memory", became)
+        return f"{len(became)} growths, {faults} of them the run's, {lines} a line's, and {unseen} that nothing shows"
 
 
 def replay_of(bench, text, workers):

@@ -284,9 +284,9 @@ fn close(rt: &impl Abort, pool: &mut Pool, account: Account)
 fn told_by_two(rt: &impl Abort, pool: &mut Pool) -> ([Answer; 4], [PoolTotals; 2]) {
     let (mut one, mut other) = opened_two(rt, pool);
     let answers = lent_to_two(rt, pool, &mut one, &mut other);
-    let before = pool.totals(&one);
+    let before = Pool::totals(pool, &one);
     close(rt, pool, one);
-    (answers, [before, pool.totals(&other)])
+    (answers, [before, Pool::totals(pool, &other)])
 }
 
 /// The first account has a root chunk, and a chunk of the granule in the other root that the second

@@ -44,6 +44,23 @@ fn listed(alloc: Global, replies: &Replies) -> Result<Vec<Reply>, AllocError> {
     Ok(told)
 }
 
+/// Replays a text with a gate.
+fn replies_to<G: Gate + Sync>(
+    rt: &(impl Abort + AllocGlobal + Threads + Wait + Sync),
+    workers: u32,
+    text: &str,
+    gate: &G,
+) -> Replies
+    requires some { 1 ≤ workers }
+    requires few { workers ≤ 8 }
+{
+    let trace = trace_of(rt, text);
+    let settings = settings(workers);
+    let replayed = replay(rt, rt.alloc(), &trace, settings, Detail::Basic, gate);
+    drop(trace);
+    replayed.expect(rt, "no replies")
+}
+
 /// Replays a text with a gate: what its lines are answered.
 fn replayed<G: Gate + Sync>(
     rt: &(impl Abort + AllocGlobal + Threads + Wait + Sync),
@@ -54,11 +71,7 @@ fn replayed<G: Gate + Sync>(
     requires some { 1 ≤ workers }
     requires few { workers ≤ 8 }
 {
-    let trace = trace_of(rt, text);
-    let settings = settings(workers);
-    let replayed = replay(rt, rt.alloc(), &trace, settings, Detail::Basic, gate);
-    drop(trace);
-    let replies = replayed.expect(rt, "no replies");
+    let replies = replies_to(rt, workers, text, gate);
     let told = listed(rt.alloc(), &replies);
     drop(replies);
     told.expect(rt, "memory is ample")
@@ -313,11 +326,7 @@ fn reported<G: Gate + Sync>(
     requires some { 1 ≤ workers }
     requires few { workers ≤ 8 }
 {
-    let trace = trace_of(rt, text);
-    let settings = settings(workers);
-    let replayed = replay(rt, rt.alloc(), &trace, settings, Detail::Basic, gate);
-    drop(trace);
-    let replies = replayed.expect(rt, "no replies");
+    let replies = replies_to(rt, workers, text, gate);
     let mut sums = [None; 2];
     for answer in &replies.answers {
         if let Some(totals) = &answer.report {
