@@ -65,7 +65,9 @@ impl Model for MeterSeat {
     ghost use Rattle.std.specs.Prelude.{◌≡◌, []};
 
     ghost view = { λ seat. record {
-        id = seat.seat.table_id; amount = seat.seat.me.0.amount; steps = seat.seat.me.0.steps
+      id = seat.seat.table_id;
+      amount = seat.seat.me.0.amount;
+      steps = seat.seat.me.0.steps;
     } };
 
     ghost invariant = { λ seat. (seat.seat.me.1 ≡ []) × (seat.seat.me.0.parts ≡ 1) };

@@ -222,7 +222,7 @@ fn who_reads_last_reads_what_all_have_in_use(rt: HostRuntime) {
 const THREE_PHASES: &str = "new 1 standard\nnew 2 standard\nalloc 1 1 5\ncalloc 2 1 7\nsync
 unload 1\nsync\nalloc 2 2 4\nwrite 2 2 0 9\nfree 2 2\nread 2 1 0\n";
 
-/// The second phase's meter ends at 18446744073709551606, to which the running 10 comes.
+/// In use are 10 words at the report; the second phase has one worker, and makes no meter.
 const ALL_GIVEN_BACK: &str = "new 1 standard\nalloc 1 1 10\nreport\nunload 1\n";
 
 #[test]
