@@ -282,7 +282,8 @@ type Accepted = [u32; 4];
 impl Twins {
     /// Lends a part that is drawn, in both: whether both answer alike, and whether they lend it.
     fn carve(&mut self, alloc: Global, drawn: &mut Drawn) -> (bool, bool) {
-        let level = Level::new(drawn.below(13) as u8);
+        let level = drawn.below(13).max(drawn.below(13));
+        let level = Level::new(level as u8);
         let at = aligned(drawn.below(ROOT_WORDS), level);
         let owner = drawn.below(9) as u32;
         let front = drawn.below(level.words()) + 1;
@@ -302,7 +303,7 @@ impl Twins {
     /// Enlarges the leaf at an offset that is drawn, where it is lent.
     fn enlarge(&mut self, drawn: &mut Drawn) -> (bool, bool) {
         let offset = drawn.below(ROOT_WORDS);
-        let front = drawn.below(1024) + 1;
+        let front = drawn.below(256) + 1;
         let first = enlarge_at(&mut self.tree, offset, front);
         let second = enlarge_at(&mut self.table, offset, front);
         (first == second, matches!(first, Some(Ok(_))))
@@ -373,7 +374,7 @@ fn set_front_at<A: Allocator, T: RootChunkArea<A>>(
 }
 
 /// Makes 100,000 calls on a tree of each body: the number of the first call after which they
-/// differ, and whether each kind of call was accepted a thousand times.
+/// differ, and whether each kind of call was accepted a hundred times.
 fn first_difference(alloc: Global) -> (Option<u32>, bool) {
     let mut twins = Twins {
         tree: SplitTree::new(),
@@ -397,7 +398,7 @@ fn first_difference(alloc: Global) -> (Option<u32>, bool) {
     let Twins { tree, table } = twins;
     drop(tree);
     drop(table);
-    (differs, accepted.iter().all(|count| *count >= 1000))
+    (differs, accepted.iter().all(|count| *count >= 100))
 }
 
 #[test]
