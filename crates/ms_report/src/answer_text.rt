@@ -131,7 +131,20 @@ pub fn lines(alloc: Global, replies: &Replies, addresses: bool) -> Result<String
     ensures { IfOk result (λ text. (settings : SettingsOf) → string_bytes text
         ≡ answers_text addresses Detail.Basic settings replies.now.answers.items) }
 {
-    lines_detailed(alloc, replies, addresses, Detail::Basic, &Settings::DEFAULT)
+    basic_lines(alloc, replies, addresses, &Settings::DEFAULT)
+}
+
+/// Writes lines with basic reports, which are the same whatever the settings.
+fn basic_lines(
+    alloc: Global,
+    replies: &Replies,
+    addresses: bool,
+    settings: &Settings,
+) -> Result<String, AllocError>
+    ensures { IfOk result (λ text. (any : SettingsOf) → string_bytes text
+        ≡ answers_text addresses Detail.Basic any replies.now.answers.items) }
+{
+    lines_detailed(alloc, replies, addresses, Detail::Basic, settings)
 }
 
 /// Writes lines as `lines` does, with reports in as much detail as is asked for. The settings are
