@@ -1,7 +1,7 @@
 //! By subject, lowest first: sizes and refusals of the `base`, `nodes` and their granules, split
-//! `trees`, `free_blocks`, the `pool` and `arenas` over it, `loaders` and systems, `reports` and
-//! `traces` as texts, the pool behind a lock (`locked_pool`), the `used_meter`, and `runs` by
-//! several workers. Each says what no clause does.
+//! `trees`, `free_blocks`, the `pool` and `arenas` over it, `loaders` and systems, `worked` rows of
+//! a system, `reports` and `traces` as texts, the pool behind a lock (`locked_pool`), the
+//! `used_meter`, and `runs` by several workers. Each says what no clause does.
 mod arenas;
 mod base;
 mod free_blocks;
@@ -14,7 +14,12 @@ mod runs;
 mod traces;
 mod trees;
 mod used_meter;
+mod worked;
 
+ghost use Rattle.std.specs.Prelude.{◌≤◌};
+ghost use Rattle.ms_base.specs.declared.sizes.TheConstants.{MOST_GRANULES};
+
+use ms_base::{Policy, Settings};
 use std::fmt::Debug;
 use std::process::Abort;
 
@@ -22,4 +27,22 @@ use std::process::Abort;
 /// differ.
 fn same<T: Debug + PartialEq>(rt: &impl Abort, told: &T, wanted: &T) {
     assert_eq!(rt; told, wanted);
+}
+
+/// The settings of one worker with these limits: of nodes, of granules, and the nodes of the class
+/// space.
+fn limited(nodes: u32, max_granules: u64, policy: Policy, class_nodes: u32) -> Settings
+    requires nodes_some { 1 ≤ nodes }
+    requires nodes_few { nodes ≤ 64 }
+    requires granules_some { 1 ≤ max_granules }
+    requires granules_few { max_granules ≤ MOST_GRANULES }
+    requires classes_few { class_nodes ≤ 16 }
+{
+    Settings {
+        workers: 1,
+        nodes,
+        max_granules,
+        policy,
+        class_nodes,
+    }
 }

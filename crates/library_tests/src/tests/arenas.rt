@@ -65,3 +65,31 @@ fn calls_that_find_memory_are_served_at_once(rt: HostRuntime) {
     let allocated = Ok(block(0, 10));
     same(&rt, &told, &Some((placed, allocated, totals)));
 }
+
+/// What an arena answers of a block of three words: the word behind it, the block freed, and freed
+/// again.
+type Freed = (Result<u64, Refusal>, [Result<(), Refusal>; 2]);
+
+/// Frees a block of a new arena twice.
+fn freed_twice(alloc: Global, pool: &mut Pool) -> Option<Freed> {
+    let Ok(account) = pool.open(Space::NonClass) else {
+        return None;
+    };
+    let mut arena = Arena::new(alloc, account, Kind::Standard);
+    let placed = arena.alloc(pool, 3);
+    let behind = arena.read(block(0, 3), 3);
+    let freed = [arena.free(block(0, 3)), arena.free(block(0, 3))];
+    drop(arena);
+    placed.ok()?;
+    Some((behind, freed))
+}
+
+#[test]
+fn a_block_that_is_freed_is_not_live(rt: HostRuntime) {
+    let mut pool = Pool::new(rt.alloc(), Settings::DEFAULT).expect(&rt, "memory is ample");
+    let told = freed_twice(rt.alloc(), &mut pool);
+    drop(pool);
+    let behind = Err(Refusal::OutOfRange { words: 3 });
+    let freed = [Ok(()), Err(Refusal::NotLive)];
+    same(&rt, &told, &Some((behind, freed)));
+}

@@ -14,8 +14,13 @@ fn block(start: u64, words: u64) -> Block
     Block { start, words }
 }
 
-/// What three blocks are answered: room for as many as can't be, the best fits, and what is left.
-type Answers = (Result<(), Refusal>, [Option<Block>; 3], (usize, u64, usize));
+/// What three blocks are answered: room for as many as can't be, the best fits, each with the words
+/// that are left, and how many blocks are left with room for how many more.
+type Answers = (
+    Result<(), Refusal>,
+    [(Option<Block>, u64); 3],
+    (usize, usize),
+);
 
 /// Calls new free blocks on the heap.
 fn called(heap: &LocalHeap) -> Option<Answers> {
@@ -35,16 +40,20 @@ fn answers(blocks: &mut FreeBlocks<&LocalHeap>) -> Option<Answers>
     blocks.add(block(0, 10));
     blocks.add(block(20, 4));
     blocks.add(block(40, 4));
-    let fits = [blocks.remove(3), blocks.remove(5), blocks.remove(5)];
+    let fits = [
+        (blocks.remove(3), blocks.total()),
+        (blocks.remove(5), blocks.total()),
+        (blocks.remove(5), blocks.total()),
+    ];
     let refused = blocks.reserve(usize::MAX);
-    Some((refused, fits, (blocks.len(), blocks.total(), blocks.room())))
+    Some((refused, fits, (blocks.len(), blocks.room())))
 }
 
 #[test]
 fn the_best_fit_comes_whole(rt: HostRuntime) {
     let heap = LocalHeap::new(rt.alloc(), 4096).expect(&rt, "memory is ample");
-    let fits = [Some(block(20, 4)), Some(block(0, 10)), None];
-    let wanted = (Err(Refusal::OutOfMemory), fits, (1, 4, 2));
+    let fits = [(Some(block(20, 4)), 14), (Some(block(0, 10)), 4), (None, 4)];
+    let wanted = (Err(Refusal::OutOfMemory), fits, (1, 2));
     let told = (called(&heap), heap.used());
     drop(heap);
     same(&rt, &told, &(Some(wanted), 0));

@@ -1,14 +1,17 @@
 //! What no clause says: that memory which is there is given, to a loader over a pool and to a
-//! system that is run. Each expected value was worked out apart from ms_loaders; traces that were
-//! worked by hand are rows of the system tests, which ask it of the program and, growth by growth,
-//! of calls.
+//! system that is run, and that parts settle once they are all there. Each expected value was worked
+//! out apart from ms_loaders; traces that were worked by hand stand in `worked` and in the system
+//! tests, which ask it of the program and, growth by growth, of calls.
+ghost use Rattle.ms_base.specs.Names.{with_new};
+ghost use Rattle.ms_loaders.specs.Settles.{MaySettle};
+
 use super::reports::ONE_BLOCK;
 use super::same;
 use ms_base::{Block, Kind, Policy, Refusal, Reply, Settings, Space, Step};
 use ms_loaders::{ArenaTotals, Details, Loader, LoaderDetails, Loaders, System, Totals, serve};
 use ms_pool::{Place, Pool, RootMap};
 use ms_report::{text, totals};
-use std::alloc::Global;
+use std::alloc::{AllocError, Global};
 use std::process::Abort;
 
 /// Settings with a node of the class space.
@@ -164,4 +167,68 @@ fn a_run_is_mapped_and_told_in_detail(rt: HostRuntime) {
         class_space: with_block(0, 0, 0),
     };
     same(&rt, &details.loaders.as_slice(), &[loader].as_slice());
+}
+
+/// Makes two loaders by a new system.
+fn two_loaders(alloc: Global) -> Result<Option<System>, AllocError> {
+    let mut system = System::new(alloc, SETTINGS)?;
+    let first = system.new_loader(1, Kind::Standard);
+    let second = system.new_loader(2, Kind::Boot);
+    if first.is_err() || second.is_err() {
+        return Ok(None);
+    }
+    Ok(Some(system))
+}
+
+/// Why a system is refused with its second loader held back, and how many loaders it has once that
+/// is there again.
+fn settled_late(alloc: Global, system: System) -> Option<(Refusal, u64)> {
+    let (pool, mut loaders) = system.into_parts();
+    match loaders.remove(2) {
+        Some(loader) => settled_again(alloc, pool, loaders, loader),
+        None => None,
+    }
+}
+
+/// The same, with the loader that is held back.
+fn settled_again(
+    alloc: Global,
+    pool: Pool,
+    loaders: Loaders,
+    held_back: Loader,
+) -> Option<(Refusal, u64)>
+    requires early { MaySettle pool loaders }
+    requires late { MaySettle pool (with_new loaders 2 held_back) }
+{
+    match System::settle(alloc, pool, loaders) {
+        Ok(_early) => None,
+        Err((refusal, pool, loaders)) => {
+            let settled = settled_with(alloc, pool, loaders, held_back)?;
+            let count = settled.loader_count();
+            drop(settled);
+            Some((refusal, count))
+        }
+    }
+}
+
+/// Puts a loader among the others, and settles.
+fn settled_with(alloc: Global, pool: Pool, loaders: Loaders, loader: Loader) -> Option<System>
+    requires { MaySettle pool (with_new loaders 2 loader) }
+{
+    let mut loaders = loaders;
+    match loaders.insert(2, loader) {
+        Ok(()) => System::settle(alloc, pool, loaders).ok(),
+        Err(_back) => None,
+    }
+}
+
+/// A loader has an account in each space.
+#[test]
+fn all_loaders_are_needed_to_settle(rt: HostRuntime) {
+    let system = two_loaders(rt.alloc()).expect(&rt, "memory is ample");
+    let system = system.expect(&rt, "two loaders were made");
+    let told = settled_late(rt.alloc(), system);
+    let (opened, gathered) = (4, 2);
+    let refusal = Refusal::Unsettled { opened, gathered };
+    same(&rt, &told, &Some((refusal, 2)));
 }

@@ -1,161 +1,255 @@
 //! What no clause says: that calls over the lock find memory, threads and the pool, that threads
 //! which run beside each other are lent different parts, and what totals and refusals count beside
 //! the caller's own. Everything else is in the clauses.
-ghost use Rattle.std.specs.Prelude.{◌≡◌, ◌<◌, ◌≤◌, IfOk, IfSome};
+ghost use Rattle.std.specs.Prelude.{◌≡◌, ◌<◌, ◌≤◌, IfOk};
 ghost use Rattle.std.specs.List.{All};
-ghost use Rattle.ms_base.specs.Level.{size_of};
 ghost use Rattle.ms_base.specs.declared.sizes.TheConstants.{MOST_GRANULES};
 ghost use Rattle.ms_shared.specs.SeatView.{ServesBy, opened_by};
 
-use super::same;
+use super::{limited, same};
 use ms_base::{Level, Policy, Refusal, Settings, Space, Span};
 use ms_pool::{Account, AccountSource, ChunkSource, Pool, PoolTotals};
 use ms_shared::{LockedPool, PoolSeat, SharedPool};
 use std::alloc::{AllocError, Global};
+use std::marker::Model;
 use std::process::Abort;
 use std::sync::Wait;
 use std::thread;
 use std::thread::Threads;
 
-/// Settings with a limit of committed granules.
-fn settings(max_granules: u64) -> Settings
-    requires some { 1 ≤ max_granules }
-    requires few { max_granules ≤ MOST_GRANULES }
+/// A seat of a lock, and an open account that it serves and counts.
+#[derive(Drop)]
+struct Holder {
+    seat: PoolSeat,
+    account: Account,
+}
+
+impl Model for Holder {
+    ghost use Rattle.std.specs.Prelude.{◌<◌};
+    ghost use Rattle.ms_shared.specs.SeatView.{SeatState, ServesBy, opened_by};
+
+    ghost Value = { SeatState };
+
+    ghost view = { λ holder. holder.seat };
+
+    ghost invariant = { λ holder. ServesBy holder.seat.knows holder.account
+        × (0 < opened_by holder.seat.knows holder.account.space) };
+}
+
+/// Has a seat at its lock, and opens an account there.
+fn open_there<'a, R: Wait + Abort>(
+    rt: &'a R,
+    lock: &'a SharedPool,
+    seat: PoolSeat,
+) -> (LockedPool<'a, R>, Account)
+    requires { seat.id ≡ lock.now.id }
+    ensures own { result.0.id ≡ seat.id }
+    ensures served { ServesBy result.0.knows result.1 }
+    ensures counted { 0 < opened_by result.0.knows result.1.space }
 {
-    Settings {
-        workers: 1,
-        nodes: 64,
-        max_granules,
-        policy: Policy::Balanced,
-        class_nodes: 0,
-    }
+    let mut pool = lock.at(rt, seat);
+    let Ok(account) = pool.open(Space::NonClass) else {
+        panic!(rt; "there are owner numbers")
+    };
+    (pool, account)
 }
 
 /// Opens an account.
-fn open_at<R: Wait>(rt: &R, lock: &SharedPool, seat: PoolSeat) -> (PoolSeat, Option<Account>)
+fn open<R: Wait + Abort>(rt: &R, lock: &SharedPool, seat: PoolSeat) -> Holder
     requires { seat.id ≡ lock.now.id }
-    ensures own { result.0.id ≡ seat.id }
-    ensures served { IfSome result.1 (λ account. ServesBy result.0.knows account) }
-    ensures counted { IfSome result.1 (λ account. 0 < opened_by result.0.knows account.space) }
+    ensures { result.id ≡ seat.id }
 {
-    let mut pool = lock.at(rt, seat);
-    match pool.open(Space::NonClass) {
-        Ok(account) => (pool.into_seat(), Some(account)),
-        Err(_) => (pool.into_seat(), None),
-    }
+    let (pool, account) = open_there(rt, lock, seat);
+    let seat = pool.into_seat();
+    Holder { seat, account }
 }
 
-/// Lends the account a chunk of a level, where that is not refused.
-fn take_one<R: Wait>(
-    rt: &R,
-    lock: &SharedPool,
-    seat: PoolSeat,
-    mut account: Account,
-    level: u8,
-) -> (PoolSeat, Account)
-    requires own { seat.id ≡ lock.now.id }
-    requires served { ServesBy seat.knows account }
-    requires counted { 0 < opened_by seat.knows account.space }
-    requires real { level ≤ 12 }
-    requires fits { 2 ≤ size_of level }
-    ensures own { result.0.id ≡ seat.id }
-    ensures served { ServesBy result.0.knows result.1 }
-    ensures counted { 0 < opened_by result.0.knows result.1.space }
+/// Lends the account a chunk of the smallest size, where that is not refused.
+fn take_one<R: Wait>(rt: &R, lock: &SharedPool, holder: Holder) -> Holder
+    requires { holder.id ≡ lock.now.id }
+    ensures { result.id ≡ holder.id }
 {
-    let level = Level::new(level);
+    let Holder { seat, mut account } = holder;
+    let level = Level::new(12);
     let mut pool = lock.at(rt, seat);
-    let _ = pool.take(&mut account, level, level, 2);
-    (pool.into_seat(), account)
+    let _ = pool.take(&mut account, level, level, 128);
+    let seat = pool.into_seat();
+    Holder { seat, account }
 }
 
-/// Lends the account 64 chunks of the smallest size, where none is refused.
-fn take_many<R: Wait>(
-    rt: &R,
-    lock: &SharedPool,
-    seat: PoolSeat,
-    mut account: Account,
-) -> (PoolSeat, Account)
-    requires own { seat.id ≡ lock.now.id }
-    requires served { ServesBy seat.knows account }
-    requires counted { 0 < opened_by seat.knows account.space }
-    ensures own { result.0.id ≡ seat.id }
-    ensures served { ServesBy result.0.knows result.1 }
-    ensures counted { 0 < opened_by result.0.knows result.1.space }
+/// Opens an account, and lends it 64 chunks, where none is refused.
+fn lend<R: Wait + Abort>(rt: &R, lock: &SharedPool, seat: PoolSeat) -> Holder
+    requires { seat.id ≡ lock.now.id }
+    ensures { result.id ≡ seat.id }
 {
-    let mut seat = seat;
+    let mut holder = open(rt, lock, seat);
     for _ in 0..64 {
-        (seat, account) = take_one(rt, lock, seat, account, 12);
+        holder = take_one(rt, lock, holder);
     }
-    (seat, account)
+    holder
 }
 
-/// Where the chunks of an account start, of 64 at most.
-fn starts_of(account: &Account) -> [u64; 64] {
-    let mut starts = [u64::MAX; 64];
-    for place in 0..64 {
-        if place < account.held() {
-            starts[place as usize] = account.chunk(place).start;
-        }
-    }
-    starts
-}
-
-/// Opens an account, lends it 64 chunks, and tells where they start.
-fn lend<R: Wait>(rt: &R, lock: &SharedPool, seat: PoolSeat) -> [u64; 64]
-    requires { seat.id ≡ lock.now.id }
-{
-    match open_at(rt, lock, seat) {
-        (seat, Some(account)) => {
-            let (_seat, account) = take_many(rt, lock, seat, account);
-            starts_of(&account)
-        }
-        (_seat, None) => [u64::MAX; 64],
-    }
-}
-
-/// Has each seat in a thread of its own.
-fn in_threads<R: Threads + Wait + Sync>(
+/// Has each seat lend in a thread of its own.
+fn lend_all<R: Threads + Wait + Abort + Sync>(
     rt: &R,
     lock: &SharedPool,
     seats: Vec<PoolSeat>,
-) -> Result<Vec<[u64; 64]>, AllocError>
+) -> Result<Vec<Holder>, AllocError>
     requires { All (λ seat. seat.id ≡ lock.now.id) seats.items }
+    ensures { IfOk result (λ held. All (λ holder. holder.id ≡ lock.now.id) held.items) }
 {
     thread::map_vec(
         rt,
         seats,
-        &|seat: PoolSeat| -> [u64; 64]
+        &|seat: PoolSeat| -> Holder
             requires { seat.id ≡ lock.now.id }
+            ensures { result.id ≡ seat.id }
         { lend(rt, lock, seat) },
     )
 }
 
-/// How often each part of the smallest level in the first 65536 words starts a chunk.
-fn times_lent(lent: &[[u64; 64]]) -> [u8; 512] {
+/// How often each part of the smallest level in the first 65536 words is lent, and how many other
+/// chunks are.
+fn times_lent(held: &[Holder]) -> ([u8; 512], u32) {
     let mut times: [u8; 512] = [0; 512];
-    for starts in lent {
-        for start in starts {
-            let part = (*start / 128) as usize;
-            if *start % 128 == 0 && part < 512 {
+    let mut others: u32 = 0;
+    for holder in held {
+        for place in 0..holder.account.held() {
+            let chunk = holder.account.chunk(place);
+            let part = (chunk.start / 128) as usize;
+            if chunk.level.number() == 12 && part < 512 {
                 times[part] = times[part].saturating_add(1);
+            } else {
+                others = others.saturating_add(1);
             }
         }
     }
-    times
+    (times, others)
 }
 
-/// Has eight threads lend chunks of a new pool: where they start.
-fn lent_by_eight<R: Threads + Wait + Sync>(
+/// The sums that an account is told.
+fn sums_of<R: Wait>(rt: &R, lock: &SharedPool, holder: Holder) -> (Holder, PoolTotals)
+    requires { holder.id ≡ lock.now.id }
+    ensures { result.0.id ≡ holder.id }
+{
+    let Holder { seat, account } = holder;
+    let mut pool = lock.at(rt, seat);
+    let totals = pool.totals(&account);
+    let seat = pool.into_seat();
+    (Holder { seat, account }, totals)
+}
+
+/// Closes an account.
+fn close<R: Wait>(rt: &R, lock: &SharedPool, holder: Holder) -> PoolSeat
+    requires { holder.id ≡ lock.now.id }
+    ensures { result.id ≡ holder.id }
+{
+    let Holder { seat, account } = holder;
+    let mut pool = lock.at(rt, seat);
+    pool.close(account);
+    pool.into_seat()
+}
+
+/// Closes accounts, each in a thread of its own.
+fn close_all<R: Threads + Wait + Sync>(
     rt: &R,
-    alloc: Global,
-) -> Result<Vec<[u64; 64]>, AllocError> {
-    let pool = Pool::new(alloc, settings(8192))?;
+    lock: &SharedPool,
+    held: Vec<Holder>,
+) -> Result<Vec<PoolSeat>, AllocError>
+    requires { All (λ holder. holder.id ≡ lock.now.id) held.items }
+    ensures { IfOk result (λ seats. All (λ seat. seat.id ≡ lock.now.id) seats.items) }
+{
+    thread::map_vec(
+        rt,
+        held,
+        &|holder: Holder| -> PoolSeat
+            requires { holder.id ≡ lock.now.id }
+            ensures { result.id ≡ holder.id }
+        { close(rt, lock, holder) },
+    )
+}
+
+/// How many nodes a seat purges.
+fn purged_by<R: Wait>(rt: &R, lock: &SharedPool, seat: PoolSeat) -> (PoolSeat, u32)
+    requires { seat.id ≡ lock.now.id }
+    ensures { result.0.id ≡ seat.id }
+{
+    let mut pool = lock.at(rt, seat);
+    let gone = pool.purge();
+    (pool.into_seat(), gone)
+}
+
+/// What comes of a pool that eight threads share: how often each part is lent and how many others
+/// are, the sums then, how many nodes are purged once all is closed, and the sums at last.
+type Shared = (([u8; 512], u32), PoolTotals, u32, Option<PoolTotals>);
+
+/// Has eight threads share the pool of a lock, by its eight seats: none where there is none.
+fn shared<R: Threads + Wait + Abort + Sync>(
+    rt: &R,
+    lock: SharedPool,
+    seats: Vec<PoolSeat>,
+) -> Result<Option<Shared>, AllocError>
+    requires { All (λ seat. seat.id ≡ lock.id) seats.items }
+{
+    let mut held = lend_all(rt, &lock, seats)?;
+    let times = times_lent(held.as_slice());
+    let Some(holder) = held.pop() else {
+        return Ok(None);
+    };
+    let (holder, totals) = sums_of(rt, &lock, holder);
+    let seat = close(rt, &lock, holder);
+    let seats = close_all(rt, &lock, held)?;
+    let (seat, gone) = purged_by(rt, &lock, seat);
+    let last = given_out(lock, seats, seat)?;
+    Ok(Some((times, totals, gone, last)))
+}
+
+/// The sums of the pool that a lock gives out, once its last seat is given back with the others.
+fn given_out(
+    lock: SharedPool,
+    seats: Vec<PoolSeat>,
+    seat: PoolSeat,
+) -> Result<Option<PoolTotals>, AllocError>
+    requires own { seat.id ≡ lock.id }
+    requires others { All (λ seat. seat.id ≡ lock.id) seats.items }
+{
+    let mut seats = seats;
+    seats.push(seat)?;
+    match lock.into_pool(seats) {
+        Ok(pool) => Ok(Some(pool.all_totals(Space::NonClass))),
+        Err(_refused) => Ok(None),
+    }
+}
+
+/// The sums while 512 chunks of the smallest size are lent to eight accounts.
+const SHARED: PoolTotals = PoolTotals {
+    nodes: 1,
+    granules: 8,
+    lent: [0, 0, 0, 0, 0, 0, 0, 0, 0, 0, 0, 0, 512],
+    free: [1, 1, 1, 1, 0, 0, 0, 0, 0, 0, 0, 0, 0],
+    capacity: 65536,
+    fronts: 65536,
+    accounts: 8,
+};
+
+/// The sums of a pool with nothing.
+const NOTHING: PoolTotals = PoolTotals {
+    nodes: 0,
+    granules: 0,
+    lent: [0; 13],
+    free: [0; 13],
+    capacity: 0,
+    fronts: 0,
+    accounts: 0,
+};
+
+/// Makes a lock over a new pool, and its eight seats.
+fn eight_seats(alloc: Global) -> Result<(SharedPool, Vec<PoolSeat>), AllocError>
+    ensures { IfOk result (λ made. All (λ seat. seat.id ≡ made.0.id) made.1.items) }
+{
+    let pool = Pool::new(alloc, Settings::DEFAULT)?;
     match SharedPool::new(alloc, pool, 8) {
-        Ok((lock, seats)) => {
-            let lent = in_threads(rt, &lock, seats);
-            drop(lock);
-            lent
-        }
+        Ok(made) => Ok(made),
         Err((_refusal, pool)) => {
             drop(pool);
             Err(AllocError)
@@ -165,8 +259,10 @@ fn lent_by_eight<R: Threads + Wait + Sync>(
 
 #[test]
 fn eight_threads_are_lent_each_part_once(rt: HostRuntime) {
-    let lent = lent_by_eight(&rt, rt.alloc()).expect(&rt, "memory is ample");
-    same(&rt, &times_lent(lent.as_slice()), &[1; 512]);
+    let (lock, seats) = eight_seats(rt.alloc()).expect(&rt, "memory is ample");
+    let told = shared(&rt, lock, seats).expect(&rt, "memory is ample");
+    let wanted = (([1; 512], 0), SHARED, 1, Some(NOTHING));
+    same(&rt, &told, &Some(wanted));
 }
 
 /// Makes a lock over a new pool with a limit of committed granules, and its two seats.
@@ -175,7 +271,7 @@ fn locked(alloc: Global, max_granules: u64) -> Result<(SharedPool, Vec<PoolSeat>
     requires few { max_granules ≤ MOST_GRANULES }
     ensures { IfOk result (λ made. All (λ seat. seat.id ≡ made.0.id) made.1.items) }
 {
-    let pool = Pool::new(alloc, settings(max_granules))?;
+    let pool = Pool::new(alloc, limited(64, max_granules, Policy::Balanced, 0))?;
     match SharedPool::new(alloc, pool, 2) {
         Ok(made) => Ok(made),
         Err((_refusal, pool)) => {
@@ -198,24 +294,8 @@ fn two_seats(rt: &impl Abort, alloc: Global, max_granules: u64) -> (SharedPool, 
     (lock, first, spare)
 }
 
-/// Has a seat at its lock, and opens an account there.
-fn open_there<'a, R: Wait + Abort>(
-    rt: &'a R,
-    lock: &'a SharedPool,
-    seat: PoolSeat,
-) -> (LockedPool<'a, R>, Account)
-    requires { seat.id ≡ lock.now.id }
-    ensures { ServesBy result.0.knows result.1 }
-{
-    let mut pool = lock.at(rt, seat);
-    let Ok(account) = pool.open(Space::NonClass) else {
-        panic!(rt; "there are owner numbers")
-    };
-    (pool, account)
-}
-
-/// Has an account of each of two seats take a chunk of a granule: what the second is answered, and
-/// the totals that the first tells then.
+/// Has an account of each of two seats take a chunk, the first all words of a granule and the second
+/// two words: what the second is answered, and the totals that the first tells then.
 fn taken_by_two<R: Wait + Abort>(
     rt: &R,
     lock: &SharedPool,
@@ -227,9 +307,9 @@ fn taken_by_two<R: Wait + Abort>(
 {
     let (mut pool, mut account) = open_there(rt, lock, one);
     let (mut others_pool, mut another) = open_there(rt, lock, other);
-    let level = Level::new(6);
-    let _ = pool.take(&mut account, level, level, 8192);
-    let answer = others_pool.take(&mut another, level, level, 8192);
+    let (granule, wanted, most) = (Level::new(6), Level::new(10), Level::new(12));
+    let _ = pool.take(&mut account, granule, granule, 8192);
+    let answer = others_pool.take(&mut another, wanted, most, 2);
     let totals = pool.totals(&account);
     pool.into_seat();
     others_pool.into_seat();
@@ -237,29 +317,33 @@ fn taken_by_two<R: Wait + Abort>(
 }
 
 /// Has two seats of a new lock take a chunk each: what the second is answered, the chunks that are
-/// lent, and the accounts.
+/// lent by level, and the accounts.
 fn of_two(
     rt: &(impl Abort + AllocGlobal + Wait),
     max_granules: u64,
-) -> (Result<Span, Refusal>, u32, u32)
+) -> (Result<Span, Refusal>, [u32; 13], u32)
     requires some { 1 ≤ max_granules }
     requires few { max_granules ≤ MOST_GRANULES }
 {
     let (lock, one, other) = two_seats(rt, rt.alloc(), max_granules);
     let (answer, totals) = taken_by_two(rt, &lock, one, other);
     drop(lock);
-    (answer, totals.lent[6], totals.accounts)
+    let lent = totals.lent;
+    (answer, lent, totals.accounts)
 }
 
+/// The second chunk lies in a granule of its own, which a limit of one refuses.
 #[test]
 fn what_another_seat_took_is_counted(rt: HostRuntime) {
-    let (start, level) = (8192, Level::new(6));
+    let (start, level) = (8192, Level::new(10));
     let served = Ok(Span { start, level });
-    same(&rt, &of_two(&rt, 8192), &(served, 2, 2));
+    let both = [0, 0, 0, 0, 0, 0, 1, 0, 0, 0, 1, 0, 0];
+    same(&rt, &of_two(&rt, 8192), &(served, both, 2));
     let refused = Err(Refusal::CommitLimit {
         committed: 1,
         limit: 1,
         need: 1,
     });
-    same(&rt, &of_two(&rt, 1), &(refused, 1, 2));
+    let first = [0, 0, 0, 0, 0, 0, 1, 0, 0, 0, 0, 0, 0];
+    same(&rt, &of_two(&rt, 1), &(refused, first, 2));
 }

@@ -1,15 +1,14 @@
 //! What no clause says: that memory which is there is given, and that the definitions are the ones
 //! meant: which part each search finds, why a chunk can't grow, and the numbers of both limits, by
-//! tables of calls for one account. What several accounts share, close and leave is asked of the
-//! program, by worked rows.
-ghost use Rattle.std.specs.Prelude.{◌<◌, ◌≤◌, IsTrue, length};
-ghost use Rattle.ms_base.specs.declared.sizes.TheConstants.{MOST_GRANULES};
-ghost use Rattle.ms_pool.specs.Account.{has_chunk_at};
+//! tables of calls for one account, and what one of two accounts leaves. What more of them share,
+//! close and leave is asked of systems and of the program, by worked rows.
+ghost use Rattle.std.specs.Prelude.{◌≡◌, ◌≢◌, ◌<◌, ◌≤◌, IfOk, IsTrue, length};
+ghost use Rattle.ms_pool.specs.Account.{AccountState, has_chunk_at};
 ghost use Rattle.ms_pool.specs.Ledger.{Serves};
 
-use super::same;
+use super::{limited, same};
 use ms_base::{Level, Policy, Refusal, Settings, Space, Span};
-use ms_pool::{Account, ChunkSource, Place, Pool, RootMap};
+use ms_pool::{Account, ChunkSource, Place, Pool, PoolTotals, RootMap};
 use std::alloc::{AllocError, Global};
 use std::process::Abort;
 
@@ -24,22 +23,6 @@ enum Call {
 
 /// What it is answered: start, level and front of the chunk, as the account has it.
 type Answer = Result<(u64, u8, u64), Refusal>;
-
-/// The settings of a pool: its limits, its policy, and no node of the class space.
-fn settings(nodes: u32, max_granules: u64, policy: Policy) -> Settings
-    requires nodes_some { 1 ≤ nodes }
-    requires nodes_few { nodes ≤ 64 }
-    requires granules_some { 1 ≤ max_granules }
-    requires granules_few { max_granules ≤ MOST_GRANULES }
-{
-    Settings {
-        workers: 1,
-        nodes,
-        max_granules,
-        policy,
-        class_nodes: 0,
-    }
-}
 
 /// Makes a pool, and asks the rows for its first account.
 fn ask_all(
@@ -65,7 +48,9 @@ fn ask_rows(rt: &impl Abort, pool: &mut Pool, account: &mut Account, rows: &[(Ca
 
 fn ask(rt: &impl Abort, pool: &mut Pool, account: &mut Account, call: Call) -> Answer
     requires { Serves pool.old account.old }
-    ensures { Serves pool.new account.new }
+    ensures served { Serves pool.new account.new }
+    ensures others { (other : AccountState) → other.owner ≢ account.old.owner
+        → Serves pool.old other → Serves pool.new other }
 {
     match call {
         Call::Take(wanted, most, words) => take(rt, pool, account, wanted, most, words),
@@ -84,7 +69,9 @@ fn take(
     words: u64,
 ) -> Answer
     requires { Serves pool.old account.old }
-    ensures { Serves pool.new account.new }
+    ensures served { Serves pool.new account.new }
+    ensures others { (other : AccountState) → other.owner ≢ account.old.owner
+        → Serves pool.old other → Serves pool.new other }
 {
     assert!(rt; wanted <= most && most <= 12);
     let (wanted, most) = (Level::new(wanted), Level::new(most));
@@ -102,7 +89,9 @@ fn grow(
     may_enlarge: bool,
 ) -> Answer
     requires { Serves pool.old account.old }
-    ensures { Serves pool.new account.new }
+    ensures served { Serves pool.new account.new }
+    ensures others { (other : AccountState) → other.owner ≢ account.old.owner
+        → Serves pool.old other → Serves pool.new other }
 {
     assert!(rt; place < account.held());
     let start = start_at(account, place);
@@ -218,20 +207,23 @@ fn the_limit_of_granules_is_told_with_its_numbers(rt: HostRuntime) {
         (Call::Grow(0, 8193, true), over_limit(1, 1, 1)),
         (Call::Take(10, 12, 2), over_limit(1, 1, 1)),
     ];
-    let pool = settings(64, 1, Policy::Balanced);
+    let pool = limited(64, 1, Policy::Balanced, 0);
     ask_all(&rt, pool, Space::NonClass, &of_one);
     let all_but_one = [
         (Call::Take(0, 0, 524288), over_limit(0, 63, 64)),
         (Call::Take(0, 0, 516096), Ok((0, 0, 516096))),
     ];
-    let pool = settings(64, 63, Policy::Balanced);
+    let pool = limited(64, 63, Policy::Balanced, 0);
     ask_all(&rt, pool, Space::NonClass, &all_but_one);
-    // Without reclaiming, a chunk is committed whole.
+    // Without reclaiming, a chunk is committed whole, so one granule fewer refuses all of a root.
+    let too_few = [(Call::Take(0, 12, 2), over_limit(0, 63, 64))];
+    let pool = limited(64, 63, Policy::None, 0);
+    ask_all(&rt, pool, Space::NonClass, &too_few);
     let whole = [
         (Call::Take(0, 12, 2), Ok((0, 0, 524288))),
         (Call::Take(0, 0, 8193), over_limit(64, 64, 64)),
     ];
-    let pool = settings(64, 64, Policy::None);
+    let pool = limited(64, 64, Policy::None, 0);
     ask_all(&rt, pool, Space::NonClass, &whole);
 }
 
@@ -244,11 +236,92 @@ fn the_limit_of_nodes_is_told_with_its_numbers(rt: HostRuntime) {
         (Call::Take(0, 12, 2), Ok((524288, 0, 8192))),
         (Call::Take(0, 12, 2), limit),
     ];
-    let pool = settings(1, 2, Policy::Balanced);
+    let pool = limited(1, 2, Policy::Balanced, 0);
     ask_all(&rt, pool, Space::NonClass, &two_roots);
     let none = Err(Refusal::ReserveLimit { nodes: 0, limit: 0 });
     let of_classes = [(Call::Take(11, 12, 10), none)];
     ask_all(&rt, Settings::DEFAULT, Space::Class, &of_classes);
+}
+
+/// Opens two accounts.
+fn opened_two(rt: &impl Abort, pool: &mut Pool) -> (Account, Account)
+    ensures one { Serves pool.new result.0 }
+    ensures other { Serves pool.new result.1 }
+{
+    let one = pool.open(Space::NonClass).expect(rt, "numbers are left");
+    let other = pool.open(Space::NonClass).expect(rt, "numbers are left");
+    (one, other)
+}
+
+/// Lends chunks to two accounts under a limit of two granules, which refuses the first one's growth.
+fn lent_to_two(
+    rt: &impl Abort,
+    pool: &mut Pool,
+    one: &mut Account,
+    other: &mut Account,
+) -> [Answer; 4]
+    requires one { Serves pool.old one.old }
+    requires other { Serves pool.old other.old }
+    ensures { Serves pool.new one.new }
+{
+    assert!(rt; other.owner() != one.owner());
+    let root = take(rt, pool, one, 0, 6, 8192);
+    assert!(rt; one.owner() != other.owner());
+    let smallest = take(rt, pool, other, 12, 12, 10);
+    let refused = grow(rt, pool, one, 0, 8212, false);
+    [root, smallest, refused, take(rt, pool, one, 2, 12, 20)]
+}
+
+/// Closes an account.
+fn close(rt: &impl Abort, pool: &mut Pool, account: Account)
+    requires { Serves pool.old account }
+{
+    assert!(rt; pool.all_totals(account.space()).accounts > 0);
+    pool.close(account);
+}
+
+/// What two accounts are answered, and the sums before the first is closed and after it.
+fn told_by_two(rt: &impl Abort, pool: &mut Pool) -> ([Answer; 4], [PoolTotals; 2]) {
+    let (mut one, mut other) = opened_two(rt, pool);
+    let answers = lent_to_two(rt, pool, &mut one, &mut other);
+    let before = Pool::totals(pool, &one);
+    close(rt, pool, one);
+    (answers, [before, Pool::totals(pool, &other)])
+}
+
+/// The first account has a root chunk, and a chunk of the granule in the other root that the second
+/// account's smallest chunk committed.
+#[test]
+fn what_one_of_two_accounts_closes_is_free(rt: HostRuntime) {
+    let settings = limited(64, 2, Policy::Balanced, 0);
+    let mut pool = Pool::new(rt.alloc(), settings).expect(&rt, "memory is ample");
+    let told = told_by_two(&rt, &mut pool);
+    drop(pool);
+    let answers = [
+        Ok((0, 0, 8192)),
+        Ok((524288, 12, 128)),
+        over_limit(2, 2, 1),
+        Ok((528384, 7, 4096)),
+    ];
+    let before = PoolTotals {
+        nodes: 1,
+        granules: 2,
+        lent: [1, 0, 0, 0, 0, 0, 0, 1, 0, 0, 0, 0, 1],
+        free: [0, 1, 1, 1, 1, 1, 1, 0, 1, 1, 1, 1, 1],
+        capacity: 528512,
+        fronts: 12416,
+        accounts: 2,
+    };
+    let after = PoolTotals {
+        nodes: 1,
+        granules: 1,
+        lent: [0, 0, 0, 0, 0, 0, 0, 0, 0, 0, 0, 0, 1],
+        free: [1; 13],
+        capacity: 128,
+        fronts: 128,
+        accounts: 1,
+    };
+    same(&rt, &told, &(answers, [before, after]));
 }
 
 /// Lends an account a chunk of one granule, one of two, of which the first is committed, and one of

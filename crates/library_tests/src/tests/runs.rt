@@ -5,7 +5,7 @@ ghost use Rattle.std.specs.Prelude.{◌≤◌};
 
 use super::same;
 use ms_base::{Policy, Reply, Settings};
-use ms_loaders::{Detail, Replies};
+use ms_loaders::{Detail, Replies, SpaceTotals};
 use ms_report::AnswerText;
 use ms_run::{Gate, NoGate, RunFault, replay, replay_into};
 use ms_trace::{Trace, parse};
@@ -44,6 +44,23 @@ fn listed(alloc: Global, replies: &Replies) -> Result<Vec<Reply>, AllocError> {
     Ok(told)
 }
 
+/// Replays a text with a gate.
+fn replies_to<G: Gate + Sync>(
+    rt: &(impl Abort + AllocGlobal + Threads + Wait + Sync),
+    workers: u32,
+    text: &str,
+    gate: &G,
+) -> Replies
+    requires some { 1 ≤ workers }
+    requires few { workers ≤ 8 }
+{
+    let trace = trace_of(rt, text);
+    let settings = settings(workers);
+    let replayed = replay(rt, rt.alloc(), &trace, settings, Detail::Basic, gate);
+    drop(trace);
+    replayed.expect(rt, "no replies")
+}
+
 /// Replays a text with a gate: what its lines are answered.
 fn replayed<G: Gate + Sync>(
     rt: &(impl Abort + AllocGlobal + Threads + Wait + Sync),
@@ -54,11 +71,7 @@ fn replayed<G: Gate + Sync>(
     requires some { 1 ≤ workers }
     requires few { workers ≤ 8 }
 {
-    let trace = trace_of(rt, text);
-    let settings = settings(workers);
-    let replayed = replay(rt, rt.alloc(), &trace, settings, Detail::Basic, gate);
-    drop(trace);
-    let replies = replayed.expect(rt, "no replies");
+    let replies = replies_to(rt, workers, text, gate);
     let told = listed(rt.alloc(), &replies);
     drop(replies);
     told.expect(rt, "memory is ample")
@@ -221,6 +234,167 @@ fn words_in_use_are_counted_on_from_phase_to_phase(rt: HostRuntime) {
         );
         same(&rt, &told, &((11, 12), (0, 10)));
     }
+}
+
+/// How many lines are answered and how many of them refused, and the values that lines read.
+fn summed(alloc: Global, replies: &[Reply]) -> Result<(usize, usize, Vec<u64>), AllocError> {
+    let (mut refused, mut values) = (0_usize, Vec::new(alloc));
+    for reply in replies {
+        match reply {
+            Reply::Value(value) => values.push(*value)?,
+            Reply::Refused(_) => refused = refused.saturating_add(1),
+            _ => {}
+        }
+    }
+    Ok((replies.len(), refused, values))
+}
+
+/// Replays a text, and compares how many lines are answered, none of them refused, and the values
+/// that lines read.
+fn expect_served(
+    rt: &(impl Abort + AllocGlobal + Threads + Wait + Sync),
+    workers: u32,
+    text: &str,
+    lines: usize,
+    values: &[u64],
+)
+    requires some { 1 ≤ workers }
+    requires few { workers ≤ 8 }
+{
+    let replies = replayed(rt, workers, text, &NoGate);
+    let (answered, refused, read) = summed(rt.alloc(), replies.as_slice()).expect(
+        rt,
+        "memory is ample",
+    );
+    drop(replies);
+    same(
+        rt,
+        &(answered, refused, read.as_slice()),
+        &(lines, 0, values),
+    );
+    drop(read);
+}
+
+/// Two loaders share a granule and go, and the node is purged.
+const UNLOADED: &str = "new 1 standard\nalloc 1 1 10\nnew 2 standard\nalloc 2 1 10\nunload 1
+unload 2\npurge\n";
+
+/// Four loaders write a word, meet, and read it.
+const MET: &str = "new 1 standard\nnew 2 standard\nnew 3 standard\nnew 4 standard
+alloc 1 1 4\nalloc 2 1 4\nalloc 3 1 4\nalloc 4 1 4
+write 1 1 0 11\nwrite 2 1 0 22\nwrite 3 1 0 33\nwrite 4 1 0 44\nsync
+read 1 1 0\nread 2 1 0\nread 3 1 0\nread 4 1 0\nreport\n";
+
+#[test]
+fn workers_serve_all_lines_away_from_the_limits(rt: HostRuntime) {
+    expect_served(&rt, 2, UNLOADED, 7, &[]);
+    for workers in [1, 2, 4, 8] {
+        expect_served(&rt, workers, MET, 18, &[11, 22, 33, 44]);
+    }
+}
+
+/// The sums over a space: the numbers of a report from the nodes on, and the chunks that are held
+/// and the parts that are free, by level.
+type Sums = ([u64; 11], [u32; 13], [u32; 13]);
+
+/// The sums over a space, as a list.
+fn sums_of(space: &SpaceTotals) -> Sums {
+    let numbers = [
+        space.nodes as u64,
+        space.reserved,
+        space.granules,
+        space.committed,
+        space.chunks as u64,
+        space.capacity,
+        space.fronts,
+        space.used,
+        space.live,
+        space.free_blocks,
+        space.waste,
+    ];
+    let (held, free) = (space.held, space.free);
+    (numbers, held, free)
+}
+
+/// The loaders and the sums over the first space in the reports of a text, of two at most.
+fn reported<G: Gate + Sync>(
+    rt: &(impl Abort + AllocGlobal + Threads + Wait + Sync),
+    workers: u32,
+    text: &str,
+    gate: &G,
+) -> [Option<(u32, Sums)>; 2]
+    requires some { 1 ≤ workers }
+    requires few { workers ≤ 8 }
+{
+    let replies = replies_to(rt, workers, text, gate);
+    let mut sums = [None; 2];
+    for answer in &replies.answers {
+        if let Some(totals) = &answer.report {
+            sums = [sums[1], Some((totals.loaders, sums_of(&totals.space)))];
+        }
+    }
+    drop(replies);
+    sums
+}
+
+/// The sums of four loaders with a block of four words each.
+const OF_FOUR: Sums = (
+    [1, 1_048_576, 1, 8192, 4, 2048, 2048, 16, 16, 0, 0],
+    [0, 0, 0, 0, 0, 0, 0, 0, 0, 0, 4, 0, 0],
+    [1, 1, 1, 1, 1, 1, 1, 1, 1, 0, 0, 0, 0],
+);
+
+#[test]
+fn a_report_is_the_same_for_each_number_of_workers(rt: HostRuntime) {
+    for workers in [1, 2, 4, 8] {
+        same(
+            &rt,
+            &reported(&rt, workers, MET, &NoGate),
+            &[None, Some((4, OF_FOUR))],
+        );
+    }
+}
+
+/// Keeps who came after line 5, and the words in use that it was told.
+#[derive(Drop)]
+struct Noting {
+    worker: AtomicU64,
+    used: AtomicU64,
+}
+
+impl Gate for Noting {
+    fn before(&self, _worker: usize, _line: u32) {}
+
+    fn after(&self, worker: usize, line: u32, used: u64) {
+        if line == 5 {
+            self.worker.store(worker as u64, Ordering::SeqCst);
+            self.used.store(used, Ordering::SeqCst);
+        }
+    }
+}
+
+/// The words in use among sums.
+fn used_in(reported: Option<(u32, Sums)>) -> Option<u64> {
+    let (_, (numbers, _, _)) = reported?;
+    Some(numbers[7])
+}
+
+/// In the second phase both workers have a line, and the second one's seat comes to
+/// 18446744073709551606 words, to which the running 10 comes.
+const BOTH_AT_WORK: &str = "new 1 standard\nalloc 1 1 10\nnew 2 standard\nreport\nunload 1
+free 2 1\nreport\n";
+
+#[test]
+fn a_worker_that_gives_back_reads_what_is_left(rt: HostRuntime) {
+    let gate = Noting {
+        worker: AtomicU64::new(9),
+        used: AtomicU64::new(9),
+    };
+    let [first, second] = reported(&rt, 2, BOTH_AT_WORK, &gate);
+    let used = [used_in(first), used_in(second)];
+    let (worker, left) = (&gate.worker, &gate.used);
+    let told = (worker.load(Ordering::SeqCst), left.load(Ordering::SeqCst));
+    same(&rt, &(used, told), &([Some(10), Some(0)], (1, 0)));
 }
 
 /// Keeps for each line who came before it and who came after it: the sum of those workers, each

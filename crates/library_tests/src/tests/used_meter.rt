@@ -5,8 +5,9 @@ ghost use Rattle.std.specs.Prelude.{◌≡◌, IfOk};
 ghost use Rattle.std.specs.List.{All};
 
 use super::same;
+use ms_base::Refusal;
 use ms_shared::{MeterSeat, UsedMeter};
-use std::alloc::AllocError;
+use std::alloc::{AllocError, Global};
 use std::thread;
 use std::thread::Threads;
 
@@ -33,6 +34,71 @@ fn now_counts_what_other_seats_added(rt: HostRuntime) {
     drop(seats);
     drop(meter);
     same(&rt, &read, &[12, u64::MAX - 9]);
+}
+
+/// What two seats read once the second has taken ten words off that another meter's seat had added,
+/// and what the meter comes to.
+fn below_nothing(
+    alloc: Global,
+    meter: UsedMeter,
+    mut one: MeterSeat,
+    mut other: MeterSeat,
+) -> Result<([u64; 2], Option<u64>), AllocError>
+    requires own { one.id ≡ meter.id }
+    requires other_own { other.id ≡ meter.id }
+{
+    meter.sub(&mut other, 10);
+    let read = [meter.now(&mut one), meter.now(&mut other)];
+    let both = vec![in alloc; one, other]?;
+    Ok((read, meter.close(both).ok()))
+}
+
+/// Two workers share the meter of a phase in which only the second unloads.
+#[test]
+fn a_seat_that_takes_off_more_goes_round(rt: HostRuntime) {
+    let (meter, mut seats) = UsedMeter::new(rt.alloc(), 2).expect(&rt, "memory is ample");
+    let other = seats.pop().expect(&rt, "two seats were made");
+    let one = seats.pop().expect(&rt, "two seats were made");
+    drop(seats);
+    let told = below_nothing(rt.alloc(), meter, one, other).expect(&rt, "memory is ample");
+    let ten_off = 18_446_744_073_709_551_606;
+    same(&rt, &told, &([ten_off, ten_off], Some(ten_off)));
+}
+
+/// Adds 5 words by one seat of two and 7 by the other, and closes the meter by one, then by both: why
+/// the first is refused, how many seats it hands back, and what both come to.
+fn closed_by_one(
+    alloc: Global,
+    meter: UsedMeter,
+    mut one: MeterSeat,
+    mut other: MeterSeat,
+) -> Result<Option<(Refusal, usize, Option<u64>)>, AllocError>
+    requires own { one.id ≡ meter.id }
+    requires other_own { other.id ≡ meter.id }
+{
+    meter.add(&mut one, 5);
+    meter.add(&mut other, 7);
+    let alone = vec![in alloc; one]?;
+    match meter.close(alone) {
+        Ok(_words) => Ok(None),
+        Err((refusal, meter, mut seats)) => {
+            let back = seats.len();
+            seats.push(other)?;
+            Ok(Some((refusal, back, meter.close(seats).ok())))
+        }
+    }
+}
+
+#[test]
+fn a_meter_is_closed_by_all_of_its_seats(rt: HostRuntime) {
+    let (meter, mut seats) = UsedMeter::new(rt.alloc(), 2).expect(&rt, "memory is ample");
+    let other = seats.pop().expect(&rt, "two seats were made");
+    let one = seats.pop().expect(&rt, "two seats were made");
+    drop(seats);
+    let told = closed_by_one(rt.alloc(), meter, one, other).expect(&rt, "memory is ample");
+    let (opened, gathered) = (2, 1);
+    let refusal = Refusal::Unsettled { opened, gathered };
+    same(&rt, &told, &Some((refusal, 1, Some(12))));
 }
 
 /// Adds 10,000 times and takes off 10,000 times, 3 words more than it took off in all.
