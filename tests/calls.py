@@ -3,8 +3,8 @@
 A row that takes memory makes its preparation, tells the state, makes a call, tells its answer and the state after it, and
 where the answer is a refusal makes the call once more. Where a state keeps what no call tells, it makes calls last that
 use that up, and tells what they find: where free blocks lie, and how far current chunks are used. The row of replays
-replays a trace, and once more where memory or a thread was wanted. The other rows make calls that take no memory after a
-mark, and tell what they find.
+replays a trace, and the row of steps has a system run one, each once more where memory or a thread was wanted. The other
+rows make calls that take no memory after a mark, and tell what they find.
 """
 import os
 import re
@@ -67,7 +67,23 @@ SAID = {
              "purge 1", "refused Unsettled { opened: 2, gathered: 0 }"),
 }
 REPLAYED = ("a fresh loader in each space", "two loaders work side by side in each space")
+# Traces of steps, with the limit of granules and what a system answers, worked by hand.
+STEPPED = {
+    "two loaders share a granule": (
+        8192, "new 1 standard / alloc 1 1 10 / new 2 standard / alloc 2 1 10 / alloc 1 2 500 / alloc 1 3 10",
+        "Ok / At(0) / Ok / At(512) / At(10) / At(1024)"),
+    "a purged slot comes back": (
+        8192, "new 1 boot / new 2 boot / new 3 boot / new 4 boot / new 5 boot / alloc 1 1 524288 / alloc 2 1 524288 / "
+        "alloc 3 1 524288 / alloc 4 1 524288 / alloc 5 1 524288 / unload 3 / unload 4 / purge / new 6 boot / new 7 boot / "
+        "alloc 6 1 524288 / alloc 7 1 524288",
+        "Ok / Ok / Ok / Ok / Ok / At(0) / At(524288) / At(1048576) / At(1572864) / At(2097152) / Ok / Ok / Ok / Ok / Ok / "
+        "At(2621440) / At(1048576)"),
+    "the limit refuses a growth in place": (
+        2, "new 1 boot / alloc 1 1 8192 / new 2 hidden / alloc 2 1 10 / alloc 1 2 20",
+        "Ok / At(0) / Ok / At(524288) / At(528384)"),
+}
 OUTSIDE = b"refused outside a call\n"
+UNSEEN = b"nothing shows it"
 NO_MEMORY, NO_THREAD = b"fault OutOfMemory", b"fault NoThread"
 
 
@@ -128,75 +144,99 @@ def refuses_each_growth(bench, row):
     return f"{number - 1} growths, {refused_calls} of them the call's"
 
 
-class Replays:
-    """Runs a trace by so many workers, and once more where memory or a thread was wanted."""
+class Runs:
+    """Runs a trace by a row with a number behind its name, and once more where memory or a thread was wanted."""
 
-    def __init__(self, bench, text, workers):
-        self.calls, self.text, self.workers = Calls(bench, "replay", [str(workers)]), text, workers
+    def __init__(self, bench, row, number, text, faults):
+        self.calls, self.text, self.faults = Calls(bench, row, [str(number)]), text, faults
         self.calm = {}
 
-    def answers(self, output):
-        """What an output tells of the first call, and of the second."""
-        facts = self.calls.facts_of(output)
-        first = [fact for word, fact in facts if word == b"answer"]
-        again = [fact for word, fact in facts if word == b"again"]
-        expect(len(first) + len(again) == len(facts), "another word", output)
-        return first, again
+    def told(self, output):
+        """What an output tells of the first call, and of the second: the answers, and what is left then."""
+        facts = {b"answer": [], b"left": [], b"again": [], b"left_again": []}
+        for word, fact in self.calls.facts_of(output):
+            expect(word in facts, "another word", output)
+            facts[word].append(fact)
+        return (facts[b"answer"], facts[b"left"]), (facts[b"again"], facts[b"left_again"])
 
-    def answers_without(self, lines):
-        """The answers to the trace without these lines, where nothing is refused."""
+    def told_without(self, lines):
+        """What is told of the trace without these lines, where nothing is refused."""
         if lines not in self.calm:
-            first, again = self.answers(self.calls.calm(without(self.text, lines)))
-            expect(first and not again, "memory was wanted without any refusal", first, again)
+            first, again = self.told(self.calls.calm(without(self.text, lines)))
+            expect(first[0] and again == ([], []), "memory was wanted without any refusal", first, again)
             self.calm[lines] = first
         return self.calm[lines]
 
     def refused(self, number):
-        """Refuses a growth: tells the fault or the lines that wanted memory, and None where no growth was met."""
+        """Refuses a growth: tells the fault or the lines that wanted memory, and None where no growth was met.
+
+        A growth may be one that the run can do without: then nothing shows that it was refused.
+        """
         ended, counts = self.calls.run(self.text, REFUSE_AT=number)
         if ended.status == 3:
             expect(counts.refused > 0 and ended.errors == OUTSIDE, "status 3", ended.errors)
             return OUTSIDE
         expect_ended(ended, 0)
-        first, again = self.answers(ended.output)
+        first, again = self.told(ended.output)
         if not counts.refused:
-            expect((first, again) == (self.answers_without(frozenset()), []), "nothing was refused", ended.output)
+            expect((first, again) == (self.told_without(frozenset()), ([], [])), "nothing was refused", ended.output)
             return None
-        expect(again == self.answers_without(frozenset()), "the call is answered otherwise again", ended.output)
-        faults = (NO_MEMORY, NO_THREAD) if self.workers > 1 else (NO_MEMORY,)
-        if len(first) == 1 and first[0] in faults:
-            return first[0]
-        return self.wanting_lines(first)
+        if again == ([], []):
+            expect(first == self.told_without(frozenset()), "a refusal changes what is told", ended.output)
+            return UNSEEN
+        expect(again == self.told_without(frozenset()), "the call is answered otherwise again", ended.output)
+        if len(first[0]) == 1 and first[0][0] in self.faults:
+            return first[0][0]
+        return self.wanting_lines(*first)
 
-    def wanting_lines(self, answers):
-        """The lines that are answered with want of memory; the others are answered as if these weren't there."""
+    def wanting_lines(self, answers, left):
+        """The lines that are answered with want of memory; all else is told as if these weren't there."""
         commands = dict(commands_of(self.text))
         replies = [(int(answer.split(b" ")[0]), answer) for answer in answers]
         lines = frozenset(line for line, answer in replies if answer.endswith(b" Refused(OutOfMemory)"))
         expect(lines and all(commands[line] in MAY_WANT for line in lines), "want of memory on lines", lines, answers)
         others = [answer for line, answer in replies if line not in lines]
-        wanted = self.answers_without(lines)
+        wanted, left_without = self.told_without(lines)
         expect(others == wanted, "without the lines", lines, others, "and not", wanted)
+        expect(left == left_without, "without the lines", lines, "is left", left, "and not", left_without)
         return lines
+
+    def refuses_each_growth(self):
+        """The first, the second, .. growth is refused: says how many they were, and whose."""
+        became = []
+        for number in range(1, MOST_GROWTHS):
+            refused = self.refused(number)
+            if refused is None:
+                break
+            became.append(refused)
+        expect(refused is None, "there was no end of growths")
+        faults = sum(refused in self.faults for refused in became)
+        unseen, lines = became.count(UNSEEN), sum(isinstance(refused, frozenset) for refused in became)
+        expect(faults > 0 and lines > 0 and unseen < lines, "no fault, or no line that wants memory", became)
+        return f"{len(became)} growths, {faults} of them the run's, {lines} a line's, and {unseen} that nothing shows"
+
+
+def replay_of(bench, text, workers):
+    """A trace that so many workers replay."""
+    return Runs(bench, "replay", workers, text, (NO_MEMORY, NO_THREAD) if workers > 1 else (NO_MEMORY,))
 
 
 def replays_again(bench, text, workers):
     """The first, the second, .. growth is refused: a replay says so, and is served as ever the next time."""
-    replays, alone = Replays(bench, text, workers), Replays(bench, text, 1)
-    calm = [re.sub(rb"At\(\d+\)", b"At", answer) for answer in alone.answers_without(frozenset())]
-    found = [re.sub(rb"At\(\d+\)", b"At", answer) for answer in replays.answers_without(frozenset())]
+    replays, alone = replay_of(bench, text, workers), replay_of(bench, text, 1)
+    calm = [re.sub(rb"At\(\d+\)", b"At", answer) for answer in alone.told_without(frozenset())[0]]
+    found = [re.sub(rb"At\(\d+\)", b"At", answer) for answer in replays.told_without(frozenset())[0]]
     expect(found == calm, "other workers, other answers", found, calm)
-    became = []
-    for number in range(1, MOST_GROWTHS):
-        refused = replays.refused(number)
-        if refused is None:
-            break
-        became.append(refused)
-    expect(refused is None, "there was no end of growths")
-    faults, outside = became.count(NO_MEMORY) + became.count(NO_THREAD), became.count(OUTSIDE)
-    lines = len(became) - faults - outside
-    expect(faults > 0 and lines > 0, "no fault, or no line that wants memory", became)
-    return f"{len(became)} growths, {faults} of them the run's and {lines} a line's"
+    return replays.refuses_each_growth()
+
+
+def runs_again(bench, text, granules, replies):
+    """A system runs the steps of a trace: as they were worked by hand, and while each growth is refused in turn."""
+    runs = Runs(bench, "steps", granules, text, (NO_MEMORY,))
+    answers = [b"%d %s" % (number, reply.encode()) for number, reply in enumerate(replies.split(" / "), 1)]
+    found, left = runs.told_without(frozenset())
+    expect(found == answers and len(left) == 1, "the steps are answered", found, "and not", answers)
+    return runs.refuses_each_growth()
 
 
 def calm_as_said(calls):
@@ -243,5 +283,8 @@ def tests():
         for workers in (1, 2, 4):
             arguments = (text_of(TRACES[name][1]), workers)
             yield Test(f"a replay refuses each growth where {name}, {workers} at work", replays_again, arguments)
+    for name, (granules, text, replies) in STEPPED.items():
+        arguments = (text_of(text), granules, replies)
+        yield Test(f"a run of steps refuses each growth where {name}", runs_again, arguments)
     for row in QUIET:
         yield Test(f"calls take no memory: {row}", takes_nothing, (row,))

@@ -21,6 +21,11 @@
 //!     replay answer fault NoThread
 //!     replay again 1 Ok                  where memory or a thread was wanted: the call once more
 //!
+//! The row `steps` has a system run the steps of standard input's trace, with as many granules for
+//! the limit as the next word says, and tells the same, and what the system holds at last:
+//!
+//!     steps left PoolTotals { .. } 1 ..  the sums over the pool, then each loader, with its chunks
+//!
 //! A growth refused outside a row's call, or before its mark, is status 3; a word that names no row,
 //! or no word, 5. It promises nothing: the system tests compare it with a run without a refusal.
 #![tactic(auto)]
@@ -48,7 +53,7 @@ use crate::reports::{Replying, Reporting, Written};
 use crate::row::{tell_probed_row, tell_row};
 use crate::shared::lock::{self, Sharing};
 use crate::shared::meter::{self, Metering};
-use crate::systems::{Asked, Asking, settling};
+use crate::systems::{Asked, Asking, settling, stepping};
 use crate::texts::{Parsing, Printing};
 use std::env;
 use std::io::{self, ErrorKind};
@@ -74,10 +79,10 @@ fn main(rt: HostRuntime) -> ExitCode {
 fn tell_asked<R: Threads + Wait + Sync>(rt: &HostRuntime, waits: &R) -> io::Result<()> {
     let mut words = env::args(rt)?;
     drop(words.next());
-    let (mut replays, mut asked) = (false, false);
+    let (mut numbered, mut asked) = (None, false);
     for word in words {
-        let told = tell_word(rt, waits, word.as_str(), replays);
-        replays = word.as_str() == "replay";
+        let told = tell_word(rt, waits, word.as_str(), numbered);
+        numbered = Numbered::named(word.as_str());
         asked = true;
         drop(word);
         told?;
@@ -89,17 +94,38 @@ fn tell_asked<R: Threads + Wait + Sync>(rt: &HostRuntime, waits: &R) -> io::Resu
     }
 }
 
-/// Tells the row that a word names, or replays by as many workers as it says.
+/// A row over a trace, which the next word has a number for.
+#[derive(Clone, Copy)]
+enum Numbered {
+    /// By so many workers.
+    Replay,
+    /// With so many granules for the limit.
+    Steps,
+}
+
+impl Numbered {
+    /// The row of that name.
+    fn named(name: &str) -> Option<Numbered> {
+        match name {
+            "replay" => Some(Numbered::Replay),
+            "steps" => Some(Numbered::Steps),
+            _ => None,
+        }
+    }
+}
+
+/// Tells the row that a word names, or the row before it whose number the word is.
 fn tell_word<R: Threads + Wait + Sync>(
     rt: &HostRuntime,
     waits: &R,
     word: &str,
-    replays: bool,
+    numbered: Option<Numbered>,
 ) -> io::Result<()> {
-    match word {
-        word if replays => runs::tell_calls(rt, waits, word),
-        "replay" => Ok(()),
-        name => tell_named(rt, waits, name),
+    match numbered {
+        Some(Numbered::Replay) => runs::tell_calls(rt, waits, word),
+        Some(Numbered::Steps) => stepping::tell_all(rt, word),
+        None if Numbered::named(word).is_some() => Ok(()),
+        None => tell_named(rt, waits, word),
     }
 }
 

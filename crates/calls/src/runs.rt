@@ -37,7 +37,7 @@ fn settings_of(word: &str) -> io::Result<Settings> {
 }
 
 /// Reads the trace.
-fn read_trace(rt: &HostRuntime) -> io::Result<Trace> {
+pub(crate) fn read_trace(rt: &HostRuntime) -> io::Result<Trace> {
     let mut text = Vec::new(rt.alloc());
     let mut input = rt.stdin();
     input.read_to_end(&mut text)?;

@@ -1,6 +1,7 @@
-//! The rows of a system: a loader is made, steps are run, sums are told.
+//! The rows of a system: a loader is made, steps are run, those of a trace too, sums are told.
 pub(crate) mod filled;
 pub(crate) mod settling;
+pub(crate) mod stepping;
 
 use crate::loaders::held::tell_all_places;
 use crate::pools::{GRANULES, SETTINGS, SMALLEST};
