@@ -9,17 +9,8 @@ from claims import Test, expect, expect_ended, first_difference
 from grammar import FIELDS, KINDS, commands_of, fault_of, lines_of
 from outputs import answers_of
 from program import MEGABYTE
+from rows import rows_of
 
-USED_ANEW = b"""new 1 standard
-new 1 boot
-alloc 1 1 1
-alloc 1 1 5
-read 1 1 1
-unload 1
-read 1 1 0
-new 1 boot
-read 1 1 0
-"""
 ALL_COMMANDS = b"""# all commands
 new 1 standard
 alloc 1 1 10
@@ -219,7 +210,9 @@ def reads_an_endless_text(bench, piece, fault):
 
 def tests():
     yield Test("each beginning of a trace with all commands is read", reads_each_beginning, (ALL_COMMANDS,))
-    yield Test("each beginning of a trace of names used anew is read", reads_each_beginning, (USED_ANEW,))
+    for name, _, rows in rows_of("names.rows"):
+        trace = "".join(f"{command}\n" for command, _ in rows).encode()
+        yield Test(f"each beginning is read where {name}", reads_each_beginning, (trace,))
     for piece in range(PIECES):
         yield Test(f"malformed texts are read, part {piece + 1} of {PIECES}", reads_malformed_texts, (piece,))
     yield Test("the longest text is read, and a longer one refused", reads_the_longest_text)

@@ -1,7 +1,7 @@
 //! What no clause says: that memory which is there is given, to a loader over a pool and to a
-//! system that is run. Each expected value was worked out apart from ms_loaders; traces that were
-//! worked by hand are rows of the system tests, which ask it of the program and, growth by growth,
-//! of calls.
+//! system that is run, and that parts settle once they are all there. Each expected value was worked
+//! out apart from ms_loaders; traces that were worked by hand stand in `worked` and in the system
+//! tests, which ask it of the program and, growth by growth, of calls.
 ghost use Rattle.ms_base.specs.Names.{with_new};
 ghost use Rattle.ms_loaders.specs.Settles.{MaySettle};
 
