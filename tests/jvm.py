@@ -30,7 +30,7 @@ USED_PER_CENT, COMMITTED_PER_CENT = 0.5, 2
 WORDS_A_KB = 128
 NEWLINE = b"\n"
 COLLECTION = re.compile(rb"GC\(\d+\) Metaspace: .* NonClass: .*?->(\d+)K\((\d+)K\) Class: .*?->(\d+)K\((\d+)K\)")
-SECONDS = 60
+SECONDS = 120
 
 # the classes of java.base that the server begins with, its rounds, modules, and modules of each round that leak
 STORED_SERVER = ("300", "3", "2", "1")
