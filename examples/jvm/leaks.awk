@@ -2,8 +2,8 @@
 #
 # NAMES is what metalog --names wrote: each loader with its number and class. REPORTS is what metarun printed for a trace with
 # several reports. For each kind and class of loaders this prints how many there are in the first report, in the middle one
-# and in the last, the MB of their live blocks in the last, and by how much these grew since the middle one. What grows most
-# stands first.
+# and in the last, the MB of their live blocks in the last, and by how much these grew since the middle one. Those whose number
+# grew since then stand first, and among them those that grew most.
 FNR == NR {
   class_of[$1] = $2
   next
@@ -20,10 +20,11 @@ in_loaders && $1 ~ /^[0-9]+$/ {
 }
 
 END {
-  print " first middle  last   live MB  grown MB  kind        class of the loaders"
+  print "number  first middle  last   live MB  grown MB  kind        class of the loaders"
   middle = int((reports + 1) / 2)
   for (kind in kinds)
     if (loaders[reports, kind])
-      printf "%6d %6d %5d %9.2f %9.2f  %s\n", loaders[1, kind], loaders[middle, kind], loaders[reports, kind],
-        live[reports, kind] / 131072, (live[reports, kind] - live[middle, kind]) / 131072, kind | "sort -k5,5nr -k7"
+      printf "%-6s %6d %6d %5d %9.2f %9.2f  %s\n", (loaders[reports, kind] > loaders[middle, kind]) ? "grows" : "stays",
+        loaders[1, kind], loaders[middle, kind], loaders[reports, kind], live[reports, kind] / 131072,
+        (live[reports, kind] - live[middle, kind]) / 131072, kind | "sort -k1,1 -k6,6nr -k8"
 }
