@@ -27,12 +27,14 @@ TAGS = "metaspace*=trace,class+loader+data=trace"
 JOINED = ("--merge", "128")
 CLASS_NODES = ("--class-nodes", "4")
 USED_PER_CENT, COMMITTED_PER_CENT = 0.5, 2
-SECONDS = 60
+WORDS_A_KB = 128
+NEWLINE = b"\n"
+COLLECTION = re.compile(rb"GC\(\d+\) Metaspace: .* NonClass: .*?->(\d+)K\((\d+)K\) Class: .*?->(\d+)K\((\d+)K\)")
+SECONDS = 120
 
 # the classes of java.base that the server begins with, its rounds, modules, and modules of each round that leak
 STORED_SERVER = ("300", "3", "2", "1")
 LARGE_SERVER = ("9000", "6", "3", "1")
-LARGE_LEAKS = 6
 
 
 class Said(NamedTuple):
@@ -71,15 +73,16 @@ def converted(log, words=()):
     return ended.output
 
 
-def last_report(bench, trace):
-    """Replays a trace all of whose lines are done, and gives its last report."""
+def replayed(bench, trace):
+    """Replays a trace all of whose lines are done, and gives its reports."""
     ended = bench.run(CLASS_NODES, trace, seconds=SECONDS)
     expect_ended(ended, 0)
     answers = answers_of(ended.output)
     expect(all(answer.reply == b"ok" for answer in answers), "a line is refused")
-    report = reports_of(answers)[-1]
-    expect_sums(report)
-    return report
+    reports = reports_of(answers)
+    for report in reports:
+        expect_sums(report)
+    return reports
 
 
 def compared(report, said):
@@ -94,7 +97,7 @@ def compared(report, said):
 
 def expect_loaders(trace, said):
     """Fails the test where the trace has other loaders than the JVM had, each with two arenas."""
-    births, deaths = (sum(line.startswith(word) for line in trace.split(b"\n")) for word in (b"new ", b"unload "))
+    births, deaths = (sum(line.startswith(word) for line in trace.split(NEWLINE)) for word in (b"new ", b"unload "))
     expect(2 * births == said.arena_births and 2 * deaths == said.arena_deaths, births, deaths, said)
 
 
@@ -112,10 +115,24 @@ def a_stored_log_is_replayed(bench):
     expect_loaders(trace, said)
     joined = converted(stored("log"), JOINED)
     expect_loaders(joined, said)
-    lines, fewer = trace.count(b"\n"), joined.count(b"\n")
+    lines, fewer = trace.count(NEWLINE), joined.count(NEWLINE)
     expect(4 * fewer < lines, "of", lines, "lines joining leaves", fewer)
-    near = compared(last_report(bench, trace), said)
-    return f"{lines} lines: {near}; {fewer} lines: {compared(last_report(bench, joined), said)}"
+    near = compared(replayed(bench, trace)[-1], said)
+    return f"{lines} lines: {near}; {fewer} lines: {compared(replayed(bench, joined)[-1], said)}"
+
+
+def a_stored_log_is_replayed_to_each_collection(bench):
+    """The log itself has what is used and committed after each collection, in KB that are cut off."""
+    log = stored("log")
+    told = [list(map(int, sizes)) for sizes in COLLECTION.findall(log)]
+    *reports, _ = replayed(bench, converted(log, ("--reports", "gc")))
+    for sizes, report in zip(told, reports, strict=True):
+        for space, used, committed in zip(report.spaces, sizes[::2], sizes[1::2], strict=True):
+            found = [space.numbers[label] / WORDS_A_KB for label in ("used", "committed")]
+            expect(abs(found[0] - used) <= max(1, used * USED_PER_CENT / 100), "used", found, sizes)
+            expect(abs(found[1] - committed) <= committed * COMMITTED_PER_CENT / 100, "committed", found, sizes)
+    expect(len(told) > 1, "the log has too few collections", told)
+    return f"{len(told)} collections"
 
 
 def need_jdk():
@@ -165,8 +182,7 @@ def run_server(room, server, first=()):
     late = threading.Timer(SECONDS, process.kill)
     late.start()
     try:
-        errors = process.stderr.readline()
-        expect(errors == b"held\n", "the JVM says", errors)
+        expect(any(line == b"held\n" for line in process.stderr), "the JVM ended before it was held")
         return asked(log, java_process(process, first))
     finally:
         late.cancel()
@@ -182,12 +198,13 @@ def a_jvm_is_replayed(bench):
         log, text = run_server(room, LARGE_SERVER)
     said, trace = said_in(text), converted(log, JOINED)
     expect_loaders(trace, said)
-    return f"{len(log) >> 20} MB of log, {trace.count(bytes([10]))} lines: {compared(last_report(bench, trace), said)}"
+    return f"{len(log) >> 20} MB of log, {trace.count(NEWLINE)} lines: {compared(replayed(bench, trace)[-1], said)}"
 
 
 def tests():
     yield Test("a stored log of a JVM gives its trace", a_stored_log_gives_its_trace)
     yield Test("a stored log of a JVM is replayed as jcmd says", a_stored_log_is_replayed)
+    yield Test("a stored log of a JVM is replayed as its collections say", a_stored_log_is_replayed_to_each_collection)
     yield Test("a JVM of this machine is replayed as jcmd says", a_jvm_is_replayed)
 
 

@@ -1,5 +1,7 @@
-"""The scripts of examples/scripts/ that make traces: what they print is a trace, with the reports that their page tells of."""
+"""The scripts of examples/: those of scripts/ print traces, with the reports that their page tells of; those of jvm/ answer questions
+about the trace of a server, as their page says, and as its reports do."""
 import os
+import re
 import shutil
 import subprocess
 
@@ -7,30 +9,12 @@ from claims import Skipped, Test, expect, expect_ended, first_difference
 from outputs import answers_of, expect_sums, reports_of
 from workbench import ROOT
 
-LOG = b"""[0.132s][info ][class,load] X source: file:/app/
-[0.132s][debug][class,load]  klass: 0x7f2c04002800 super: 0x7f2c03000d68 loader: [loader data: 0x7f2c84127590 for \
-instance a 'java/net/URLClassLoader'{0x69ec19620}] bytes: 312 checksum: 78a676ca
-[0.133s][debug][class,load]  klass: 0x800 super: 0x0 loader: [loader data: 0x1 of 'bootstrap'] bytes: 1000 checksum: 1
-[0.134s][debug][class,load]  klass: 0x900 super: 0x0 loader: [loader data: 0x2 of 'app' has a class holder] bytes: 4
-[0.135s][debug][class,load]  klass: 0xa00 super: 0x0 loader: [loader data: 0x7f2c84127590 for instance a X] bytes: 5 c
-[0.141s][info ][class,unload] unloading class X 0x7f2c04002800
-[0.141s][info ][class,unload] unloading class Y 0xa00
-[0.141s][info ][class,unload] unloading class Z 0xb00
-"""
-OF_LOG = b"""new 0 standard
-alloc 0 0 63
-calloc 0 1 75
-new 1 boot
-alloc 1 2 201
-calloc 1 3 75
-new 2 hidden
-alloc 2 4 1
-calloc 2 5 75
-alloc 0 6 2
-calloc 0 7 75
-unload 0
-report
-"""
+JVM = os.path.join(ROOT, "examples", "jvm")
+SERVER = os.path.join("examples", "jvm", "server.trace")
+ROUNDS, LEAKS = 8, 1
+CLASS_NODES = ("--class-nodes", "16")
+WORDS_A_MB, GRANULES_A_MB = 131072, 16
+COMMAND = re.compile(r"^    \$ (.+)\n((?:    .*\n)+)", re.MULTILINE)
 
 
 def printed(name, text=b"", **settings):
@@ -44,7 +28,7 @@ def printed(name, text=b"", **settings):
     return made.stdout
 
 
-def reported(bench, words, text):
+def reported(bench, words, text, granule=8192):
     """Runs a trace all of whose lines are done, and gives its reports."""
     ended = bench.run(words, text)
     expect_ended(ended, 0)
@@ -53,25 +37,8 @@ def reported(bench, words, text):
     expect(all(answer.reply == b"ok" for answer in answers), "a line is refused", ended.output)
     reports = reports_of(answers)
     for report in reports:
-        expect_sums(report)
+        expect_sums(report, granule)
     return reports
-
-
-def a_log_becomes_a_trace(bench):
-    """Lines of a log, each kind of loader among them, worked by hand."""
-    made = printed("class_log", LOG)
-    expect(made == OF_LOG, first_difference(made, OF_LOG))
-    reported(bench, ["--class-nodes", "4"], made)
-
-
-def a_made_up_log_is_a_trace(bench):
-    """What a made up log leaves are the 400 classes of the boot loader; all others are unloaded."""
-    made = printed("class_log", printed("sample_log"))
-    live = sum(int((300 + 37 * number % 4000) * 0.2) + 1 for number in range(400))
-    for workers in ("1", "2", "8"):
-        report, = reported(bench, ["--class-nodes", "4", "--workers", workers], made)
-        spaces = [space.numbers["live"] for space in report.spaces]
-        expect(spaces == [live, 400 * 75] and len(report.loaders) == 1, report.loaders, spaces)
 
 
 def redeployments_leak(bench):
@@ -91,8 +58,125 @@ def hidden_classes_come_and_go(bench):
         expect(numbers == [(100, 12800), (100, 12800)], numbers)
 
 
+def run_command(bench, command):
+    """Runs a command of the page from the top of the repository, over the built program."""
+    if not shutil.which("awk"):
+        raise Skipped("awk")
+    environment = {**os.environ, "METARUN": bench.program.path}
+    words = ["sh", "-c", command.replace("./metarun", '"$METARUN"')]
+    ended = subprocess.run(words, cwd=ROOT, env=environment, capture_output=True, text=True, check=True)
+    expect(ended.stderr == "", ended.stderr)
+    return ended.stdout
+
+
+def commands_of_the_page():
+    """The commands of the page about the server, by their scripts, each with what the page says that it prints."""
+    with open(os.path.join(JVM, "README.md"), encoding="ascii") as file:
+        blocks = COMMAND.findall(file.read())
+    return {re.search(r"(\w+)\.(?:awk|sh)", command)[1]: (command, re.sub("^    ", "", lines, flags=re.MULTILINE))
+            for command, lines in blocks}
+
+
+def server_trace():
+    with open(os.path.join(ROOT, SERVER), "rb") as file:
+        return file.read()
+
+
+def server_reports(bench, policy="balanced"):
+    """The full reports of the server's trace, under a policy."""
+    words = [*CLASS_NODES, "--report", "full", "--policy", policy]
+    return reported(bench, words, server_trace(), granule=2048 if policy == "aggressive" else 8192)
+
+
+def megabytes(words):
+    return f"{words / WORDS_A_MB:.2f}"
+
+
+def the_page_says_what_is_printed(bench):
+    """Each script of the folder is asked once, and prints what the page says."""
+    commands = commands_of_the_page()
+    scripts = {name.split(".")[0] for name in os.listdir(JVM) if name.endswith((".awk", ".sh"))}
+    expect(set(commands) == scripts, "the page asks", sorted(commands), "and the folder has", sorted(scripts))
+    for command, wanted in commands.values():
+        found = run_command(bench, command)
+        expect(found == wanted, first_difference(found.encode(), wanted.encode()))
+
+
+def the_leaking_class_is_first(bench):
+    """The server leaks a module each round, and a module has a loader of this class."""
+    command, _ = commands_of_the_page()["leaks"]
+    rows = [line.split() for line in run_command(bench, command).splitlines()[1:]]
+    grows, first, middle, last, *_, kind, name = rows[0]
+    expect((grows, kind, name) == ("grows", "standard", "Redeployments$ModuleLoader"), rows[0])
+    expect(int(first) < int(middle) < int(last) == ROUNDS * LEAKS, rows[0])
+    report = server_reports(bench)[-1]
+    expect(sum(int(row[3]) for row in rows) == len(report.loaders), "other loaders than the report's", rows)
+    live = sum(space.numbers["live"] for space in report.spaces)
+    expect(abs(sum(float(row[4]) for row in rows) - live / WORDS_A_MB) < 0.005 * len(rows), live, rows)
+
+
+def the_smallest_limit_suffices(bench):
+    """Under the limit that the script finds no line is refused, and under one granule less a line is."""
+    *limits, smallest = run_command(bench, f"sh examples/jvm/limit.sh {SERVER} 1").splitlines()
+    granules = int(re.search(r"=(\d+)k$", smallest)[1]) // 64
+    expect(smallest.startswith(f"smallest: {granules / GRANULES_A_MB:.2f} MB"), smallest)
+    refused = {}
+    for most in (granules, granules - 1, GRANULES_A_MB):
+        answers = answers_of(bench.run([*CLASS_NODES, "--max-granules", str(most)], server_trace()).output)
+        refused[most] = [answer.line for answer in answers if answer.reply == b"refused CommitLimit"]
+    expect(refused[granules] == [] and refused[granules - 1], granules, refused)
+    lines = refused[GRANULES_A_MB]
+    expect(limits == [f"1 MB: {len(lines)} requests refused, the first in line {lines[0]}"], limits, lines[0])
+
+
+def policies_commit_as_reported(bench):
+    """Each policy's most and last committed size is that of the last full report."""
+    lines = run_command(bench, commands_of_the_page()["policies"][0]).splitlines()
+    for line, policy in zip(lines, ("balanced", "aggressive", "none"), strict=True):
+        report = server_reports(bench, policy)[-1]
+        peak, last = " ".join(report.peaks["granules"][1:]), " ".join(report.usages[2]["committed"][1:3])
+        expect(line.split(maxsplit=1) == [policy, f"at most {peak}, at the end {last}"], line, peak, last)
+
+
+def what_is_lost_adds_up(bench):
+    """The rows are the kinds' sums, and with the free chunks they make what is committed."""
+    lines = run_command(bench, commands_of_the_page()["lost"][0]).splitlines()
+    report = server_reports(bench)[-1]
+    committed = sum(space.numbers["committed"] for space in report.spaces)
+    free = committed - sum(space.numbers["fronts"] for space in report.spaces)
+    for line, (kind, sums) in zip(lines[1:5], report.kinds.items(), strict=True):
+        loaders, _, _, fronts, used, live, freed, waste = sums
+        sizes = [live, fronts - used, freed, waste]
+        shares = [text for size in sizes for text in (megabytes(size), f"{100 * size / committed:.1f}")]
+        expect(line.split() == [kind, str(loaders), *shares], line, shares)
+    expect(lines[5].split()[3:] == [megabytes(free), f"{100 * free / committed:.1f}", "per", "cent", "of",
+                                    megabytes(committed), "MB"], lines[5], free, committed)
+
+
+def the_class_space_is_the_most_reported(bench):
+    """One node suffices, and the sizes are the greatest of all reports."""
+    said = run_command(bench, commands_of_the_page()["class_space"][0])
+    reports = reported(bench, ["--class-nodes", "1"], server_trace())
+    most = [max(report.spaces[1].numbers[label] for report in reports) for label in ("capacity", "committed")]
+    capacity, committed = map(megabytes, most)
+    expect(said == f"8 MB suffice: at most {capacity} MB in chunks, {committed} MB committed\n", said, most)
+
+
+def a_script_ends_where_the_program_fails(bench):
+    """Where the program doesn't end well, no script answers anything."""
+    for script in ("limit", "class_space"):
+        path = os.path.join(JVM, f"{script}.sh")
+        ended = subprocess.run(["sh", path, path], env={**os.environ, "METARUN": bench.program.path}, capture_output=True)
+        expect(ended.returncode == 1 and ended.stdout == b"", script, ended)
+
+
 def tests():
-    yield Test("a log of class loading becomes a trace", a_log_becomes_a_trace)
-    yield Test("a made up log of class loading becomes a trace", a_made_up_log_is_a_trace)
     yield Test("redeployments leak as they are asked to", redeployments_leak)
     yield Test("hidden classes come and go", hidden_classes_come_and_go)
+    yield Test("the page about a server says what its scripts print", the_page_says_what_is_printed)
+    yield Test("a server's leaking class stands first", the_leaking_class_is_first)
+    yield Test("a server's smallest limit suffices", the_smallest_limit_suffices)
+    yield Test("a server's policies commit what is reported", policies_commit_as_reported)
+    yield Test("what a server loses adds up", what_is_lost_adds_up)
+    yield Test("a server's class space is the most reported", the_class_space_is_the_most_reported)
+    yield Test("a script ends where the program fails", a_script_ends_where_the_program_fails)

@@ -1,6 +1,6 @@
 #!/usr/bin/awk -f
 # Makes a trace of a test that provokes hidden classes, as lambdas and method handles make them:
-# awk -f examples/hidden_classes.awk > my.trace. Each has a loader of its own, and goes once so many
+# awk -f examples/scripts/hidden_classes.awk > my.trace. Each has a loader of its own, and goes once so many
 # younger ones have come. Settings, by -v NAME=VALUE: classes in all, live (how many stand at a time),
 # words of a class's metadata, and every (a report comes after so many classes).
 BEGIN {

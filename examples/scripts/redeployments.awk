@@ -1,6 +1,6 @@
 #!/usr/bin/awk -f
 # Makes a trace of an application that is deployed again and again over a boot loader:
-# awk -f examples/redeployments.awk > my.trace. Each round loads it anew, with modules of their own
+# awk -f examples/scripts/redeployments.awk > my.trace. Each round loads it anew, with modules of their own
 # loaders, and unloads the former round, but for what leaks. Settings, by -v NAME=VALUE: rounds,
 # modules a round, classes a module, leak (modules of each round that are never unloaded), and
 # every (a report comes after so many rounds).
