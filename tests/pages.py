@@ -206,7 +206,8 @@ def examples_of(text):
     paragraphs = paragraphs_of(text)
     for before, block in zip(paragraphs, paragraphs[1:]):
         files = [target for _, target in LINK.findall(before) if target.endswith((".out", ".trace"))]
-        if block.startswith("    ") and before.rstrip().endswith(":") and files:
+        is_command = block.startswith(tuple(f"    {word}" for word in COMMANDS))
+        if block.startswith("    ") and before.rstrip().endswith(":") and files and not is_command:
             yield files[-1], [line[4:] for line in block.rstrip().split("\n")]
 
 
