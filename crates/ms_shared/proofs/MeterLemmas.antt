@@ -1,7 +1,7 @@
 -- Each step on a meter's word keeps its rule, and so do cutting and joining seats; where all seats
 -- have become one, the word is its amount. For the calls of UsedMeter.
-use Rattle.std.proofs.Common.{◌≡◌, ℕ, ◌+◌, ◌-◌, ◌%◌, ◌^◌, ◌<◌, ◌≤◌, List, [], ◌∷◌, ◌++◌, get_or, set}
-use Rattle.std.proofs.Common.{sym, refl, ap, ◌∙◌, subst}
+use Rattle.std.proofs.Common.{◌≡◌, ℕ, ◌+◌, ◌-◌, ◌%◌, ◌^◌, ◌<◌, ◌≤◌, List, [], ◌∷◌, ◌++◌, set}
+use Rattle.std.proofs.Common.{sym, refl, ap, ◌∙◌}
 use Rattle.std.proofs.Common.{arith, ⊎_elim, length-set, get_or-set_same, slice_index, replicate}
 use Rattle.std.proofs.lemmas.List.{replicate_more}
 use Rattle.std.proofs.lemmas.List.Sums.{sum_by_push}
@@ -9,7 +9,7 @@ use mathlib.Core.Option.{some, some-injective, some-ne-none}
 use lib.ListN.{get_elem?}
 use Rattle.atomic_table.specs.Seated.{TableId}
 use Rattle.atomic_table.specs.Table.{Me, keeps, Allows, Splits, Joins, Final, Seen}
-use Rattle.atomic_table.proofs.Lists.{at_set, at_snoc, set_again}
+use Rattle.atomic_table.proofs.Lists.{at_set, at_snoc}
 use Rattle.ms_shared.specs.MeterRule.{added, meter_view, stepped, less_part, joined, IsMetered, IdleIsEmpty, MeterSeatState}
 use Rattle.ms_shared.specs.MeterRule.{amounts_in}
 use Rattle.ms_shared.specs.declared.meter_rule.MeterView.{MeterView}
