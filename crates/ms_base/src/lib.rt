@@ -19,7 +19,6 @@ mod settings;
 mod sizes;
 mod span;
 mod step;
-mod words;
 
 pub use kind::{Kind, Space, growth};
 pub use level::{Level, level_for};
@@ -29,4 +28,3 @@ pub use settings::Settings;
 pub use sizes::{CLASS_SLOTS, MOST_GRANULES, NODE_WORDS, ROOT_WORDS, SLOTS};
 pub use span::{Block, Chunk, Span};
 pub use step::{Reply, Step};
-pub use words::{LiveBlock, Words};

@@ -1,7 +1,7 @@
 -- A live block by where it lies.
 use Rattle.std.specs.Prelude.{◌≡◌, ℕ, ◌==◌, ◌&&◌, Bool, Some}
 use Rattle.ms_base.specs.declared.span.Block.{Block}
-use Rattle.ms_base.specs.declared.words.LiveBlock.{LiveBlock}
+use Rattle.ms_base.specs.Live.{LiveBlock}
 use Rattle.ms_base.specs.Live.{run_of}
 use Rattle.ms_base.specs.Names.{named}
 use Rattle.ms_base.specs.State.{LoaderState}

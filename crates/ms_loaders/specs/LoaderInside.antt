@@ -6,7 +6,7 @@ use Rattle.ms_base.specs.declared.kind.Space.{Space}
 use Rattle.ms_base.specs.declared.kind.Space.TheVariants.{NonClass, Class}
 use Rattle.ms_base.specs.declared.kind.Kind.{Kind}
 use Rattle.ms_base.specs.declared.span.Block.{Block}
-use Rattle.ms_base.specs.declared.words.LiveBlock.{LiveBlock}
+use Rattle.ms_base.specs.Live.{LiveBlock}
 use Rattle.ms_base.specs.Spaces.{by_space, is_in, space_at}
 use Rattle.ms_base.specs.Names.{AreNamed}
 use Rattle.ms_arena.specs.Raw.{RawView, Holds, contents_at}

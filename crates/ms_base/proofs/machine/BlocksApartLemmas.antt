@@ -11,7 +11,7 @@ use Rattle.std.proofs.lemmas.List.Folds.{list_any-append}
 use Rattle.std.proofs.lemmas.List.Elements.{recursion_from_All}
 use Rattle.ms_base.specs.declared.policy.Policy.{Policy}
 use Rattle.ms_base.specs.declared.span.Chunk.{Chunk}
-use Rattle.ms_base.specs.declared.words.LiveBlock.{LiveBlock}
+use Rattle.ms_base.specs.Live.{LiveBlock}
 use Rattle.ms_base.specs.declared.kind.Space.{Space}
 use Rattle.ms_base.specs.Spaces.{is_in}
 use Rattle.ms_base.specs.Interval.{meet, meets_any, are_apart, lies_in}

@@ -11,7 +11,7 @@ use Rattle.std.proofs.lemmas.List.Elements.{filter-append}
 use Rattle.ms_base.specs.declared.kind.Space.{Space}
 use Rattle.ms_base.specs.declared.kind.Space.TheVariants.{NonClass, Class}
 use Rattle.ms_base.specs.declared.span.Block.{Block}
-use Rattle.ms_base.specs.declared.words.LiveBlock.{LiveBlock}
+use Rattle.ms_base.specs.Live.{LiveBlock}
 use Rattle.ms_base.specs.Live.{run_of, runs_in}
 use Rattle.ms_base.specs.Names.{named, with_new, with_changed, without}
 use Rattle.ms_base.specs.Spaces.{other_space, is_in, space_at}

@@ -14,7 +14,7 @@ use Rattle.ms_base.specs.declared.kind.Space.TheVariants.{NonClass, Class}
 use Rattle.ms_base.specs.declared.policy.Policy.{Policy}
 use Rattle.ms_base.specs.declared.span.Chunk.{Chunk}
 use Rattle.ms_base.specs.declared.span.Block.{Block}
-use Rattle.ms_base.specs.declared.words.LiveBlock.{LiveBlock}
+use Rattle.ms_base.specs.Live.{LiveBlock}
 use Rattle.ms_base.specs.declared.refusal.Refusal.{Refusal}
 use Rattle.ms_base.specs.Interval.{meet, meets_any, lies_in}
 use Rattle.ms_base.specs.Level.{size_of}
