@@ -15,10 +15,10 @@ from growths import MAY_WANT, MOST_GROWTHS, TRACES, Told, text_of
 from program import Program
 from workbench import ROOT
 
-TAKING = ("carve", "reserve", "pool", "take", "pool_maps", "place", "alloc", "insert", "new_loader", "step", "run",
+TAKING = ("carve", "carve_boxes", "reserve", "pool", "take", "pool_maps", "place", "alloc", "insert", "new_loader", "step", "run",
           "totals", "details", "system_maps", "shared", "meter", "parse", "print", "text", "full_text", "lines", "map_text")
 PROBED = ("reserve", "place", "alloc", "insert", "new_loader", "step", "run", "totals", "details", "system_maps")
-QUIET = ("sizes", "nodes", "tree", "blocks", "accounts", "counter", "arena", "loaders", "system", "report", "lock")
+QUIET = ("sizes", "nodes", "tree", "boxes", "blocks", "accounts", "counter", "arena", "loaders", "system", "report", "lock")
 
 
 def usage_line(about, *amounts):

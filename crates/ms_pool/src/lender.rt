@@ -48,7 +48,7 @@ pub(crate) struct Counts {
 /// What a pool keeps.
 #[derive(Drop)]
 pub(crate) struct Lender {
-    /// Where the boxes of trees and the lists of accounts come from.
+    /// Where the tables of parts and the lists of accounts come from.
     pub(crate) alloc: Global,
     /// The reserved slots, the committed granules, and the limits of both.
     pub(crate) nodes: Nodes,

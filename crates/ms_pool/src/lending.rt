@@ -64,7 +64,7 @@ impl Lender {
             self.counts.take_commit = self.counts.take_commit.wrapping_add(1);
             return Err(refusal);
         }
-        // All memory is taken before anything changes: room in the list here, the boxes in `lend`.
+        // All memory is taken before anything changes: room in the list here, the table in `lend`.
         if account.chunks.reserve(1).is_err() {
             return Err(Refusal::OutOfMemory);
         }
