@@ -37,11 +37,7 @@ impl From<AllocError> for ReadFault {
 }
 
 /// Reads to the end of the input, but at most so many bytes.
-pub fn read_text<R: Read>(
-    alloc: Global,
-    input: &mut R,
-    most: usize,
-) -> Result<Vec<u8>, ReadFault>
+pub fn read_text<R: Read>(alloc: Global, input: &mut R, most: usize) -> Result<Vec<u8>, ReadFault>
     ensures bytes { IfOk result (λ text.
         Consumes (R.remaining input.old) (R.remaining input.new) text.items) }
     ensures most { IfOk result (λ text. vec_len text ≤ most) }

@@ -56,12 +56,7 @@ fn tell_fact<F: Debug>(rt: &HostRuntime, row: &str, about: &str, fact: &F) {
 }
 
 /// Makes the leaf there larger, with the front.
-fn tell_larger<T: RootChunkArea<Global>>(
-    rt: &HostRuntime,
-    row: &str,
-    area: &mut T,
-    offset: u64,
-)
+fn tell_larger<T: RootChunkArea<Global>>(rt: &HostRuntime, row: &str, area: &mut T, offset: u64)
     requires { offset < ROOT_WORDS }
 {
     tell_fact(rt, row, "front", &set_front(area, offset));
@@ -142,7 +137,11 @@ fn tell_some<T: RootChunkArea<Global>>(rt: &HostRuntime, row: &str, area: &T) {
 fn tell_table(rt: &HostRuntime, table: &PartTable<Global>) {
     tell_some(rt, "tree", table);
     let level = Level::new(10);
-    line(rt, "tree is whole", &(table.is_whole(), table.free_levels()));
+    line(
+        rt,
+        "tree is whole",
+        &(table.is_whole(), table.free_levels()),
+    );
     line(
         rt,
         "tree can",

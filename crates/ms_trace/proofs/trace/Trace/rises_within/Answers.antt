@@ -1,5 +1,4 @@
 use Rattle.std.proofs.Common.{◌≡◌, ◌+◌, ◌∙◌, List, [], true, ap, arith, drop, drop_of_length-le, sym}
-
 use Rattle.ms_trace.specs.Grammar.{any_line}
 use Rattle.ms_trace.specs.declared.trace.Line.{Line}
 use Rattle.ms_trace.specs.Spelling.{rises_above}
