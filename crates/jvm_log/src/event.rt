@@ -73,6 +73,10 @@ pub enum Event {
         address: u64,
         kind: Kind,
     },
+    /// The loader whose data lies at that address has a name, which it told when it was unloaded.
+    LoaderNamed {
+        data: u64,
+    },
     /// A collection is over.
     Collection,
     /// The JVM left out lines of its log.

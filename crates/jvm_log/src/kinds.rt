@@ -5,6 +5,9 @@
 //!
 //! After HotSpot 17's metaspaceArenaGrowthPolicy.cpp. A request that needs more gets a larger chunk,
 //! which tells nothing where the tables would ask for no more.
+ghost use Rattle.std.specs.Prelude.{◌≡◌, IfSome};
+ghost use Rattle.jvm_log.specs.Kinds.{first_level};
+
 use ms_base::{Kind, Space};
 
 /// The words of a root chunk of the JVM.
@@ -15,7 +18,9 @@ const LAST: u64 = 14;
 
 /// Tells the kind of a loader whose arena of that space asks for its first chunk at that level, for a
 /// request of so many words, if that can be told. The first loader of a log is the boot loader.
-pub(crate) fn kind_by_level(space: Space, level: u64, words: u64) -> Option<Kind> {
+pub(crate) fn kind_by_level(space: Space, level: u64, words: u64) -> Option<Kind>
+    ensures { IfSome result (λ kind. first_level space kind ≡ level) }
+{
     let fitting = fitting_level(words);
     if level > fitting || level == fitting && level < LAST {
         return None;

@@ -8,6 +8,7 @@
 use crate::event::{Event, Said};
 use crate::held::Held;
 use crate::kinds::kind_by_level;
+use crate::loader::{Block, Loader, Request, opening};
 use crate::names::Names;
 use crate::placed::Placed;
 use crate::trouble::Trouble;
@@ -18,40 +19,6 @@ use std::collections::HashMap;
 
 /// The most lines that are held back: past that the first goes out as far as it is known.
 const MOST_HELD: usize = 100_000;
-
-/// A loader that lives.
-#[derive(Clone, Copy, Debug, PartialEq, Eq)]
-struct Loader {
-    /// How many loaders were born before it.
-    birth: u64,
-    name: u16,
-    /// Its kind, once that is told.
-    kind: Option<Kind>,
-    /// The number of its line among those held back.
-    line: u64,
-    /// The number of its next block.
-    next: u32,
-    arena: u64,
-    class_arena: u64,
-}
-
-/// A request without an answer so far.
-#[derive(Clone, Copy, Debug, PartialEq, Eq)]
-struct Request {
-    arena: u64,
-    words: u64,
-    /// The number of its line among those held back, once it has taken a step in the pool.
-    line: Option<u64>,
-}
-
-/// A block that lives.
-#[derive(Clone, Copy, Debug, PartialEq, Eq)]
-struct Block {
-    /// The loader's address, and how many loaders were born before it.
-    loader: u64,
-    birth: u64,
-    number: u32,
-}
 
 /// What answered a thread's last request, whose address it isn't told yet.
 #[derive(Clone, Copy, Debug, PartialEq, Eq)]
@@ -84,6 +51,9 @@ pub struct Machine {
 }
 
 impl Machine {
+    ghost use Rattle.std.specs.Prelude.{◌≡◌};
+    ghost use Rattle.jvm_log.specs.Held.{whole_lines};
+
     /// Makes a machine that knows nothing. With `reports` it asks for a report after each collection.
     pub fn new(alloc: Global, reports: bool) -> Result<Machine, AllocError> {
         Ok(Machine {
@@ -100,9 +70,14 @@ impl Machine {
         })
     }
 
-    /// Tells how many loaders were born so far.
+    /// Tells how many loaders were born so far, each of which has a line in the trace.
     pub fn births(&self) -> u64 {
         self.births
+    }
+
+    /// Tells how many loaders were born before the one whose block lies at that address.
+    pub fn birth_at(&self, address: u64) -> Option<u64> {
+        Some(self.blocks.get(&address)?.birth)
     }
 
     /// Takes in what a line says. What is wrong with it is no error.
@@ -145,7 +120,7 @@ impl Machine {
             Event::Told { address } => self.tell(thread, address),
             Event::ClassAdded { address, kind } => self.add_class(address, kind),
             Event::Collection => self.collect(),
-            Event::Begun => Ok(None),
+            Event::Begun | Event::LoaderNamed { .. } => Ok(None),
             Event::Dropped => Ok(Some(Trouble::Dropped)),
         }
     }
@@ -163,11 +138,11 @@ impl Machine {
         } else {
             None
         };
-        let birth = self.births;
-        self.births = birth.wrapping_add(1);
         let Some(name) = self.names.take() else {
             return Ok(Some(Trouble::NoName));
         };
+        let birth = self.births;
+        self.births = birth.wrapping_add(1);
         let line = self.held.open(Some(opening(name, Kind::Standard)))?;
         self.loaders.insert(
             loader,
@@ -199,11 +174,12 @@ impl Machine {
         }
         known.kind = Some(kind);
         let (line, name) = (known.line, known.name);
-        self.held.fill(line, opening(name, kind))
+        self.held.put(Some(line), opening(name, kind))
     }
 
     /// A loader dies.
     fn bury(&mut self, loader: u64) -> Result<Option<Trouble>, AllocError> {
+        let is_told = self.is_told(loader);
         self.set_kind(loader, Kind::Standard)?;
         let Some(dead) = self.loaders.remove(&loader) else {
             return Ok(Some(Trouble::UnknownLoader));
@@ -212,7 +188,19 @@ impl Machine {
         let _ = self.arenas.remove(&dead.class_arena);
         self.held.add(Placed::from(Command::Step(Step::Unload { loader: dead.name })))?;
         self.names.give_back(dead.name);
-        Ok(None)
+        Ok(if is_told {
+            None
+        } else {
+            Some(Trouble::UnknownKind)
+        })
+    }
+
+    /// Tells whether the kind of a loader is told, or it has no blocks.
+    fn is_told(&self, loader: u64) -> bool {
+        match self.loaders.get(&loader) {
+            Some(known) => known.kind.is_some() || known.next == 0,
+            None => true,
+        }
     }
 
     /// A thread asks an arena for words.
@@ -233,16 +221,27 @@ impl Machine {
     }
 
     /// Forgets a request that a thread has open.
-    fn forget(&mut self, thread: u64) -> Option<Trouble> {
+    fn forget(&mut self, thread: u64) -> Option<Trouble>
+        ensures no_line { whole_lines self.new.held.entries.items ≡ whole_lines self.old.held.entries.items }
+    {
         let request = self.requests.remove(&thread)?;
-        if let Some(line) = request.line {
-            self.held.cancel(line);
-        }
+        self.abandon(request);
         Some(Trouble::Unanswered)
     }
 
+    /// Makes nothing of a request.
+    fn abandon(&mut self, request: Request)
+        ensures no_line { whole_lines self.new.held.entries.items ≡ whole_lines self.old.held.entries.items }
+    {
+        if let Some(line) = request.line {
+            self.held.cancel(line);
+        }
+    }
+
     /// A request is refused: HotSpot asks again.
-    fn refuse(&mut self, thread: u64) -> Option<Trouble> {
+    fn refuse(&mut self, thread: u64) -> Option<Trouble>
+        ensures no_line { whole_lines self.new.held.entries.items ≡ whole_lines self.old.held.entries.items }
+    {
         match self.forget(thread) {
             Some(_) => None,
             None => Some(Trouble::Unasked),
@@ -254,7 +253,7 @@ impl Machine {
         if let Some(request) = self.requests.get_mut(&thread)
             && request.line.is_none()
         {
-            request.line = Some(self.held.open(None)?);
+            *request = request.placed_at(self.held.open(None)?);
         }
         Ok(None)
     }
@@ -287,28 +286,28 @@ impl Machine {
         let Some(request) = self.requests.remove(&thread) else {
             return Ok(Some(Trouble::Unasked));
         };
-        let Some(loader) = self.arenas.get(&arena) else {
+        let Some(loader) = self.arenas.get(&arena).copied() else {
+            self.abandon(request);
             return Ok(Some(Trouble::UnknownArena));
         };
-        let loader = *loader;
         let Some(owner) = self.loaders.get_mut(&loader) else {
+            self.abandon(request);
             return Ok(Some(Trouble::UnknownLoader));
         };
-        let number = owner.next;
-        owner.next = number.wrapping_add(1);
+        let Some(next) = owner.next.checked_add(1) else {
+            return Ok(Some(Trouble::NoName));
+        };
         let block = Block {
             loader,
             birth: owner.birth,
-            number,
+            number: owner.next,
         };
         let line = Placed {
-            command: Command::Step(allocation(space, owner.name, number, request.words)),
+            command: Command::Step(owner.allocating(space, request.words)),
             address: address.unwrap_or(0),
         };
-        match request.line {
-            Some(place) => self.held.fill(place, line)?,
-            None => self.held.add(line)?,
-        }
+        owner.next = next;
+        self.held.put(request.line, line)?;
         match address {
             Some(address) => {
                 self.blocks.insert(address, block)?;
@@ -363,13 +362,10 @@ impl Machine {
         let Some(block) = self.blocks.remove(&address) else {
             return Ok(Some(Trouble::UnknownBlock));
         };
-        if block.birth != owner.birth {
+        let Some(step) = owner.freeing(&block) else {
             return Ok(Some(Trouble::UnknownBlock));
-        }
-        self.held.add(Placed::from(Command::Step(Step::Free {
-            loader: owner.name,
-            block: block.number,
-        })))?;
+        };
+        self.held.add(Placed::from(Command::Step(step)))?;
         Ok(None)
     }
 
@@ -390,40 +386,31 @@ impl Machine {
         Ok(None)
     }
 
-    /// Takes in that the log is over: what isn't known by now never will be. Tells whether it ended
-    /// inside of a request.
+    /// Takes in that the log is over: what is not known by now never will be. Answers what the end
+    /// shows to be wrong.
     pub fn finish(&mut self) -> Option<Trouble> {
         self.held.close();
-        if self.requests.is_empty() {
-            None
-        } else {
-            Some(Trouble::EndsEarly)
+        if !self.requests.is_empty() {
+            return Some(Trouble::EndsEarly);
         }
+        if self.has_untold() {
+            return Some(Trouble::UnknownKind);
+        }
+        None
+    }
+
+    /// Tells whether a loader with blocks lives whose kind isn't told.
+    fn has_untold(&self) -> bool {
+        for loader in self.loaders.values() {
+            if loader.kind.is_none() && loader.next != 0 {
+                return true;
+            }
+        }
+        false
     }
 
     /// Takes the next line of the trace, if it is known so far.
     pub fn next_line(&mut self) -> Option<Placed> {
         self.held.next()
-    }
-}
-
-/// The line that opens a loader.
-fn opening(loader: u16, kind: Kind) -> Placed {
-    Placed::from(Command::Step(Step::New { loader, kind }))
-}
-
-/// The step that allocates a block in a space.
-fn allocation(space: Space, loader: u16, block: u32, words: u64) -> Step {
-    match space {
-        Space::NonClass => Step::Alloc {
-            loader,
-            block,
-            words,
-        },
-        Space::Class => Step::Calloc {
-            loader,
-            block,
-            words,
-        },
     }
 }

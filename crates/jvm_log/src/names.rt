@@ -26,11 +26,13 @@ impl Model for Names {
 }
 
 impl Names {
-    ghost use Rattle.std.specs.Prelude.{◌≡◌, ◌≤◌, ◌<◌, ℕ, Some, true, false, IfSome, IfNone};
+    ghost use Rattle.std.specs.Prelude.{◌≡◌, ◌≤◌, ◌<◌, ℕ, Some, true, false, IfOk, IfSome, IfNone, All};
     ghost use Rattle.std.specs.Prelude.{slice_get, slice_set, length};
 
     /// Makes a table in which no name is in use.
-    pub(crate) fn new(alloc: Global) -> Result<Names, AllocError> {
+    pub(crate) fn new(alloc: Global) -> Result<Names, AllocError>
+        ensures { IfOk result (All (λ used. used ≡ false)) }
+    {
         let mut used = Vec::new(alloc);
         used.resize(NAMES, false)?;
         Ok(Names { used, next: 0 })

@@ -1,6 +1,10 @@
 //! Why no trace comes out.
+ghost use Rattle.std.specs.Prelude.{◌≡◌};
+ghost use Rattle.metalog.specs.Failure.{status_of};
+
+use jvm_log::Stop;
 use std::alloc::AllocError;
-use std::io::{self, ErrorKind};
+use std::io::Write;
 use thiserror::Error;
 
 /// Why no trace comes out, or only a beginning of it. Its text is the line on standard error.
@@ -25,12 +29,23 @@ pub enum Failure {
 
 impl Failure {
     /// Tells the exit status.
-    pub fn status(&self) -> u8 {
+    pub fn status(&self) -> u8
+        ensures { result ≡ status_of self.now }
+    {
         match self {
             Failure::NoLoader => 1,
             Failure::OutOfMemory => 3,
             Failure::Input | Failure::Output | Failure::Names => 5,
         }
+    }
+
+    /// Writes its line on `errors`, and tells the exit status. Whether the line comes out changes
+    /// no status.
+    pub fn tell<E: Write>(&self, errors: &mut E) -> u8
+        ensures { result ≡ status_of self.now }
+    {
+        let _ = writeln!(errors, "{self}");
+        self.status()
     }
 }
 
@@ -40,10 +55,12 @@ impl From<AllocError> for Failure {
     }
 }
 
-/// Tells what an error of the input makes of a session.
-pub fn failure_of_input(error: &io::Error) -> Failure {
-    match error.kind() {
-        ErrorKind::OutOfMemory => Failure::OutOfMemory,
-        _ => Failure::Input,
+impl From<Stop> for Failure {
+    fn from(stop: Stop) -> Failure {
+        match stop {
+            Stop::Input => Failure::Input,
+            Stop::Output => Failure::Output,
+            Stop::OutOfMemory => Failure::OutOfMemory,
+        }
     }
 }

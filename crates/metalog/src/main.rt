@@ -1,8 +1,10 @@
 //! `metalog` makes a trace of the log of a JVM's metaspace.
 #![tactic(auto)]
 
+mod conversion;
 mod failure;
 mod joining;
+mod naming;
 mod options;
 mod output;
 mod session;

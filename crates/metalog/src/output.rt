@@ -1,5 +1,5 @@
 //! The lines of a trace, written in large pieces.
-use crate::failure::Failure;
+use jvm_log::Stop;
 use ms_trace::{Command, print_command};
 use std::alloc::Global;
 use std::io::Write;
@@ -22,7 +22,7 @@ impl Output {
     }
 
     /// Adds the line of a command.
-    pub fn add<W: Write>(&mut self, command: Command, output: &mut W) -> Result<(), Failure> {
+    pub fn add<W: Write>(&mut self, command: Command, output: &mut W) -> Result<(), Stop> {
         print_command(&mut self.text, command)?;
         self.text.extend_from_slice(b"\n".as_slice())?;
         if self.text.len() >= PIECE {
@@ -32,12 +32,12 @@ impl Output {
     }
 
     /// Writes what was kept.
-    pub fn write<W: Write>(&mut self, output: &mut W) -> Result<(), Failure> {
+    pub fn write<W: Write>(&mut self, output: &mut W) -> Result<(), Stop> {
         let written = output.write_all(self.text.as_slice());
         self.text.clear();
         match written {
             Ok(()) => Ok(()),
-            Err(_) => Err(Failure::Output),
+            Err(_) => Err(Stop::Output),
         }
     }
 }

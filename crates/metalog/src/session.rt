@@ -1,107 +1,59 @@
 //! A session: each line of the log is read, and what it says goes into a machine, which gives the
 //! lines of the trace. They are written as they come, or in the end where blocks are joined.
-use crate::failure::{Failure, failure_of_input};
-use crate::joining::join;
-use crate::options::{Options, Reports};
-use crate::output::Output;
-use crate::warnings::Warnings;
-use jvm_log::{Machine, Placed, next_line, said_in};
-use ms_trace::Command;
+ghost use Rattle.std.specs.Prelude.{◌≢◌, ◌≤◌};
+
+use crate::conversion::Conversion;
+use crate::failure::Failure;
+use crate::options::Options;
+use jvm_log::read_log;
 use std::alloc::Global;
+use std::fs;
 use std::io::{BufRead, Write};
+use std::rt::Files;
 
 /// Reads a log and writes its trace; answers the exit status. Warnings go to `errors`.
-pub fn session<R: BufRead, W: Write, E: Write>(
+#[tactic(auto, using(crate::proofs::StatusLemmas::status_is_few, crate::proofs::StatusLemmas::status_is_no_usage))]
+pub fn session<T: Files, R: BufRead, W: Write, E: Write>(
+    rt: &T,
     alloc: Global,
     options: &Options,
     input: &mut R,
     output: &mut W,
     errors: &mut E,
-) -> u8 {
-    match convert(alloc, options, input, output, errors) {
+) -> u8
+    ensures no_usage { result ≢ 2 }
+    ensures statuses { result ≤ 5 }
+{
+    let ended = match convert(alloc, options, input, output, errors) {
+        Ok(names) => keep_names(rt, options, &names),
+        Err(failure) => Err(failure),
+    };
+    match ended {
         Ok(()) => 0,
-        Err(failure) => {
-            let _ = writeln!(errors, "{failure}");
-            failure.status()
-        }
+        Err(failure) => failure.tell(errors),
     }
 }
 
-/// Reads a log and writes its trace.
+/// Reads a log and writes its trace; answers the text of the file of names.
 fn convert<R: BufRead, W: Write, E: Write>(
     alloc: Global,
     options: &Options,
     input: &mut R,
     output: &mut W,
     errors: &mut E,
-) -> Result<(), Failure> {
-    let mut machine = Machine::new(alloc, options.reports == Reports::Gc)?;
-    let mut warnings = Warnings::new(alloc);
-    let mut text = Output::new(alloc);
-    let mut kept: Vec<Placed> = Vec::new(alloc);
-    let mut line = Vec::new(alloc);
-    for number in 1..u64::MAX {
-        match next_line(input, &mut line) {
-            Ok(true) => {}
-            Ok(false) => {
-                if let Some(trouble) = machine.finish() {
-                    warnings.tell(trouble, number - 1, errors)?;
-                }
-                hand_on(&mut machine, options, &mut kept, &mut text, output)?;
-                break;
-            }
-            Err(error) => return Err(failure_of_input(&error)),
-        }
-        if let Some(said) = said_in(trimmed(&line)) {
-            if let Some(trouble) = machine.take_in(said)? {
-                warnings.tell(trouble, number, errors)?;
-            }
-            hand_on(&mut machine, options, &mut kept, &mut text, output)?;
-        }
-    }
-    warnings.sum_up(errors);
-    if machine.births() == 0 {
-        return Err(Failure::NoLoader);
-    }
-    if let Some(most) = options.merge {
-        join(alloc, &mut kept, most)?;
-        for line in &kept {
-            text.add(line.command, output)?;
-        }
-    }
-    if options.reports != Reports::None {
-        text.add(Command::Report, output)?;
-    }
-    text.write(output)
+) -> Result<Vec<u8>, Failure> {
+    let mut conversion = Conversion::new(alloc, *options, output, errors)?;
+    let lines = read_log(alloc, input, &mut conversion)?;
+    conversion.finish(lines)
 }
 
-/// Hands on the lines that are known so far: to the output, or kept where blocks are joined.
-fn hand_on<W: Write>(
-    machine: &mut Machine,
-    options: &Options,
-    kept: &mut Vec<Placed>,
-    text: &mut Output,
-    output: &mut W,
-) -> Result<(), Failure> {
-    for _ in 0..u64::MAX {
-        let Some(line) = machine.next_line() else {
-            break;
-        };
-        if options.merge.is_some() {
-            if kept.push(line).is_err() {
-                return Err(Failure::OutOfMemory);
-            }
-        } else {
-            text.add(line.command, output)?;
-        }
-    }
-    Ok(())
-}
-
-/// A line without its newline.
-fn trimmed(line: &[u8]) -> &[u8] {
-    match line.strip_suffix(b"\n".as_slice()) {
-        Some(front) => front,
-        None => line,
+/// Writes the file of names, where it is asked for.
+fn keep_names<T: Files>(rt: &T, options: &Options, names: &[u8]) -> Result<(), Failure> {
+    let Some(path) = options.names else {
+        return Ok(());
+    };
+    match fs::write(rt, path, names) {
+        Ok(()) => Ok(()),
+        Err(_) => Err(Failure::Names),
     }
 }
