@@ -45,8 +45,9 @@ pub(crate) fn read_block(field: &[u8]) -> Result<u32, FaultKind>
     Ok(block as u32)
 }
 
-/// Reads words, an index or a value.
-pub(crate) fn read_word(field: &[u8]) -> Result<u64, FaultKind>
+/// Reads words, an index or a value: a number in decimal without leading zeros, at most 2^64 - 1.
+/// Takes no memory. This project's choice.
+pub fn read_word(field: &[u8]) -> Result<u64, FaultKind>
     ensures fault { result_err result ≡ field_fault word_field field.now }
     ensures number { IfOk result (λ word. decimal word ≡ field.now) }
 {

@@ -22,6 +22,7 @@ mod spellings;
 mod trace;
 
 pub use fault::{FaultKind, ParseFault, TraceFault};
-pub use printing::print;
+pub use fields::read_word;
+pub use printing::{print, print_command};
 pub use reading::{parse, parse_within};
 pub use trace::{Command, Line, Lines, Trace};

@@ -52,8 +52,8 @@ fn print_gap<A: Allocator>(text: &mut Vec<u8, A>, lines: u32) -> Result<(), Allo
     text.resize(text.len() + lines as usize, b'\n')
 }
 
-/// Prints a command.
-fn print_command<A: Allocator>(text: &mut Vec<u8, A>, command: Command) -> Result<(), AllocError>
+/// Prints a command at the end of a text, without a newline. This project's choice.
+pub fn print_command<A: Allocator>(text: &mut Vec<u8, A>, command: Command) -> Result<(), AllocError>
     ensures printed { OnOk result (text.new.items ≡ text.old.items ++ spelling_of command) }
     ensures valid { IsValid command }
 {

@@ -1,0 +1,4 @@
+pub mod PartLemmas
+pub mod HeldLemmas
+pub mod HearingLemmas
+pub mod ReadingLemmas

@@ -1,0 +1,89 @@
+//! The loaders of a trace, with what the log tells of each.
+use jvm_log::{name_in, owner_in};
+use std::alloc::{AllocError, Global};
+use std::collections::HashMap;
+
+/// What stands for a loader of which the log tells nothing.
+const UNKNOWN: &str = "?";
+
+/// What is told of the loaders.
+#[derive(Drop)]
+pub struct Naming {
+    alloc: Global,
+    /// The number of each, in the order of their lines.
+    numbers: Vec<u16>,
+    /// What is told of each, by how many came before it.
+    texts: HashMap<u64, Vec<u8>>,
+    /// How many came before the loader whose data lies at an address.
+    births: HashMap<u64, u64>,
+}
+
+impl Naming {
+    /// Makes a list of no loaders.
+    pub fn new(alloc: Global) -> Naming {
+        Naming {
+            alloc,
+            numbers: Vec::new(alloc),
+            texts: HashMap::new(alloc),
+            births: HashMap::new(alloc),
+        }
+    }
+
+    /// Adds the loader of a `new` line.
+    pub fn open(&mut self, number: u16) -> Result<(), AllocError> {
+        self.numbers.push(number)?;
+        Ok(())
+    }
+
+    /// Keeps what a line tells of the loader before which so many came.
+    pub fn describe(&mut self, birth: u64, line: &[u8]) -> Result<(), AllocError> {
+        let Some(owner) = owner_in(line) else {
+            return Ok(());
+        };
+        self.births.insert(owner.data, birth)?;
+        if self.texts.contains_key(&birth) {
+            return Ok(());
+        }
+        let mut text = Vec::from_slice(self.alloc, owner.class)?;
+        if owner.is_holder {
+            text.extend_from_slice(b" has a class holder".as_slice())?;
+        }
+        self.texts.insert(birth, text)?;
+        Ok(())
+    }
+
+    /// Keeps the name that a line tells of a loader that was unloaded.
+    pub fn name(&mut self, line: &[u8]) -> Result<(), AllocError> {
+        let Some((data, name)) = name_in(line) else {
+            return Ok(());
+        };
+        if name.ends_with(b" has a class holder".as_slice()) {
+            return Ok(());
+        }
+        let Some(birth) = self.births.remove(&data) else {
+            return Ok(());
+        };
+        if let Some(text) = self.texts.get_mut(&birth) {
+            text.extend_from_slice(b" ".as_slice())?;
+            text.extend_from_slice(name)?;
+        }
+        Ok(())
+    }
+
+    /// Gives a line for each loader: its number, a space, and what is told of it.
+    pub fn text(&self) -> Result<Vec<u8>, AllocError> {
+        let mut text = Vec::new(self.alloc);
+        let mut birth: u64 = 0;
+        for number in &self.numbers {
+            let number = format!(in self.alloc; "{number} ")?;
+            text.extend_from_slice(number.as_bytes())?;
+            match self.texts.get(&birth) {
+                Some(told) => text.extend_from_slice(told.as_slice())?,
+                None => text.extend_from_slice(UNKNOWN.as_bytes())?,
+            }
+            text.extend_from_slice(b"\n".as_slice())?;
+            birth = birth.wrapping_add(1);
+        }
+        Ok(text)
+    }
+}

@@ -1,0 +1,169 @@
+//! What a run is asked to be, and the command line that asks for it.
+//!
+//!     metalog --reports gc --merge   ->   Options { reports: Gc, merge: Some(128), names: None }
+//!
+//! `clap` reads the words and writes the texts of refusals and of the help.
+use clap::builder::ValueParser;
+use clap::error::ErrorKind;
+use clap::{Arg, ArgMatches, Command, value_parser};
+use std::alloc::{AllocError, Global};
+use std::convert::AsStr;
+
+/// Where the trace asks for reports.
+#[derive(Clone, Copy, Debug, PartialEq, Eq)]
+pub enum Reports {
+    /// One at the end.
+    End,
+    /// After each collection, and one at the end.
+    Gc,
+    /// Nowhere.
+    None,
+}
+
+/// The options of a run. This project's choice.
+#[derive(Clone, Copy)]
+pub struct Options<'a> {
+    pub reports: Reports,
+    /// The most words of a block that is joined of several, where blocks are joined.
+    pub merge: Option<u64>,
+    /// The file that the loaders' names go to.
+    pub names: Option<&'a str>,
+}
+
+impl Options<'_> {
+    /// What `metalog` runs with where no option is given.
+    pub const DEFAULT: Options<'static> = Options {
+        reports: Reports::End,
+        merge: None,
+        names: None,
+    };
+}
+
+/// Why a command line gives no options.
+#[derive(Drop)]
+pub enum Refused {
+    /// Help or the version was asked for; this is its text, for standard output.
+    Told(String),
+    /// The line is refused; this text says why, for standard error.
+    Usage(String),
+    /// A growth was refused.
+    OutOfMemory,
+}
+
+/// Reads a command line, whose first word is the program's name. Takes memory. This project's
+/// choice.
+pub fn options_of<'a, S: AsStr>(alloc: Global, words: &'a [S]) -> Result<Options<'a>, Refused> {
+    if words.len() <= 1 {
+        return Ok(Options::DEFAULT);
+    }
+    let command = match command(alloc) {
+        Ok(command) => command,
+        Err(_) => return Err(Refused::OutOfMemory),
+    };
+    match command.try_get_matches_from(words) {
+        Ok(matches) => Ok(chosen(&matches)),
+        Err(error) => Err(reason_of(alloc, &error)),
+    }
+}
+
+/// Tells what an error of the command line makes of it.
+fn reason_of(alloc: Global, error: &clap::Error) -> Refused {
+    let Ok(text) = format!(in alloc; "{error}") else {
+        return Refused::OutOfMemory;
+    };
+    match error.kind() {
+        ErrorKind::OutOfMemory => Refused::OutOfMemory,
+        ErrorKind::DisplayHelp | ErrorKind::DisplayVersion => Refused::Told(text),
+        _ => Refused::Usage(text),
+    }
+}
+
+/// Collects what was chosen.
+fn chosen<'a>(matches: &ArgMatches<'a>) -> Options<'a> {
+    Options {
+        reports: reports_in(matches),
+        merge: matches.get_one::<u64>("merge"),
+        names: matches.get_str("names"),
+    }
+}
+
+/// Tells where reports are asked for: `clap` accepts no other word than the three.
+fn reports_in(matches: &ArgMatches) -> Reports {
+    match matches.get_str("reports") {
+        Some("gc") => Reports::Gc,
+        Some("none") => Reports::None,
+        _ => Reports::End,
+    }
+}
+
+/// The version, and the toolchain that all is proved with.
+const VERSION: &str = "1.0.0 (proved with rattle-kit-13f logic dac8208d650f15bf)";
+
+/// The first words of the help.
+const ABOUT: &str = "Makes a trace for metarun of the log of a JVM's metaspace (JDK 17).
+
+Standard input has the log of a JVM that was started with
+  java \"-Xlog:metaspace*=trace,class+load=debug,class+loader+data=trace,class+unload=info:\\
+file=meta.log:uptime,tid,level,tags:filecount=0\" ..
+Standard output gets the trace: each loader, and each block with its exact words.";
+
+/// The last words of the help.
+const AFTER: &str =
+    "What is wrong with a log is told on standard error, with the number of its first line.
+
+Exit status:
+  0  the trace is written; or this help, or the version
+  1  nothing can be made of the log: no line of it tells of a loader
+  2  the command line is refused; nothing was read
+  3  memory is wanting
+  5  standard input, standard output or the file of names failed
+
+Example:
+  metalog < meta.log > app.trace && metarun < app.trace";
+
+/// Describes the command line.
+fn command<'a>(alloc: Global) -> Result<Command<'a>, AllocError> {
+    Command::new(alloc, "metalog")
+        .version(VERSION)
+        .about(ABOUT)
+        .after_help(AFTER)
+        .bin_name("metalog")?
+        .arg(report_option(alloc))?
+        .arg(merge_option(alloc))?
+        .arg(name_option(alloc))
+}
+
+/// Describes `--reports`.
+fn report_option<'a>(alloc: Global) -> Arg<'a> {
+    let places = ["end", "gc", "none"].as_slice();
+    Arg::new(alloc, "reports")
+        .long("reports")
+        .value_name("R")
+        .value_parser(places)
+        .help("Ask for a report at the end, after each collection too, or nowhere [default: end]")
+}
+
+/// Describes `--merge`.
+fn merge_option<'a>(alloc: Global) -> Arg<'a> {
+    let words: ValueParser<'a> = value_parser!(u64).range(2..=1_048_576).into();
+    Arg::new(alloc, "merge")
+        .long("merge")
+        .value_name("N")
+        .num_args(0..=1)
+        .default_missing_value("128")
+        .value_parser(words)
+        .help(
+            "Join blocks of an arena that lie side by side and are never freed, up to N words: \
+2 to 1048576, 128 where no N is given; the whole trace is kept in memory [default: no]",
+        )
+}
+
+/// Describes `--names`.
+fn name_option<'a>(alloc: Global) -> Arg<'a> {
+    Arg::new(alloc, "names")
+        .long("names")
+        .value_name("FILE")
+        .help(
+            "Write for each 'new' line the loader's number, and what the log tells of it, to FILE",
+        )
+}

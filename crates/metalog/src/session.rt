@@ -1,0 +1,59 @@
+//! A session: each line of the log is read, and what it says goes into a machine, which gives the
+//! lines of the trace. They are written as they come, or in the end where blocks are joined.
+ghost use Rattle.std.specs.Prelude.{◌≢◌, ◌≤◌};
+
+use crate::conversion::Conversion;
+use crate::failure::Failure;
+use crate::options::Options;
+use jvm_log::read_log;
+use std::alloc::Global;
+use std::fs;
+use std::io::{BufRead, Write};
+use std::rt::Files;
+
+/// Reads a log and writes its trace; answers the exit status. Warnings go to `errors`.
+#[tactic(auto, using(crate::proofs::StatusLemmas::status_is_few, crate::proofs::StatusLemmas::status_is_no_usage))]
+pub fn session<T: Files, R: BufRead, W: Write, E: Write>(
+    rt: &T,
+    alloc: Global,
+    options: &Options,
+    input: &mut R,
+    output: &mut W,
+    errors: &mut E,
+) -> u8
+    ensures no_usage { result ≢ 2 }
+    ensures statuses { result ≤ 5 }
+{
+    let ended = match convert(alloc, options, input, output, errors) {
+        Ok(names) => keep_names(rt, options, &names),
+        Err(failure) => Err(failure),
+    };
+    match ended {
+        Ok(()) => 0,
+        Err(failure) => failure.tell(errors),
+    }
+}
+
+/// Reads a log and writes its trace; answers the text of the file of names.
+fn convert<R: BufRead, W: Write, E: Write>(
+    alloc: Global,
+    options: &Options,
+    input: &mut R,
+    output: &mut W,
+    errors: &mut E,
+) -> Result<Vec<u8>, Failure> {
+    let mut conversion = Conversion::new(alloc, *options, output, errors)?;
+    let lines = read_log(alloc, input, &mut conversion)?;
+    conversion.finish(lines)
+}
+
+/// Writes the file of names, where it is asked for.
+fn keep_names<T: Files>(rt: &T, options: &Options, names: &[u8]) -> Result<(), Failure> {
+    let Some(path) = options.names else {
+        return Ok(());
+    };
+    match fs::write(rt, path, names) {
+        Ok(()) => Ok(()),
+        Err(_) => Err(Failure::Names),
+    }
+}

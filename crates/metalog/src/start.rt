@@ -1,0 +1,43 @@
+//! The program as a call: the command line is judged, then the log is read.
+ghost use Rattle.std.specs.Prelude.{◌≡◌, ◌≤◌};
+
+use crate::failure::Failure;
+use crate::options::{Refused, options_of};
+use crate::session::session;
+use std::alloc::Global;
+use std::convert::AsStr;
+use std::io::{BufRead, Write};
+use std::rt::Files;
+
+/// Reads a command line, whose first word is the program's name, and does what it asks for; answers
+/// the exit status.
+///
+/// 0: the trace is written, or the help or the version. 1: nothing can be made of the log. 2: the
+/// command line is refused, and nothing was read. 3: memory was wanting. 5: a device failed. What is
+/// wrong is told on `errors`. This project's choice.
+#[tactic(auto, using(crate::proofs::StatusLemmas::status_is_few, crate::proofs::StatusLemmas::status_is_no_usage))]
+pub fn start<T: Files, S: AsStr, R: BufRead, W: Write, E: Write>(
+    rt: &T,
+    alloc: Global,
+    words: &[S],
+    input: &mut R,
+    output: &mut W,
+    errors: &mut E,
+) -> u8
+    ensures unread { result ≡ 2 → R.remaining input.new ≡ R.remaining input.old }
+    ensures statuses { result ≤ 5 }
+{
+    match options_of(alloc, words) {
+        Ok(options) => session(rt, alloc, &options, input, output, errors),
+        Err(Refused::Told(text)) => match output.write_all(text.as_bytes()) {
+            Ok(()) => 0,
+            Err(_) => Failure::Output.tell(errors),
+        },
+        Err(Refused::Usage(text)) => {
+            // Whether the text comes out changes no status.
+            let _ = errors.write_all(text.as_bytes());
+            2
+        }
+        Err(Refused::OutOfMemory) => Failure::OutOfMemory.tell(errors),
+    }
+}
