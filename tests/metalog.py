@@ -12,8 +12,8 @@ METALOG = os.path.join(ROOT, "crates", "metalog", "out", "metalog")
 
 
 def at(thread, text, tags="metaspace", level="trace"):
-    """A line of a log."""
-    return f"[0.123s][{thread}][{level:<5}][{tags:<22}] {text}\n"
+    """A line of a log; the JVM pads a thread's number."""
+    return f"[0.123s][{thread:<4}][{level:<5}][{tags:<22}] {text}\n"
 
 
 def place(number):

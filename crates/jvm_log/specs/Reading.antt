@@ -15,14 +15,16 @@ use Rattle.jvm_log.specs.declared.event.Said.{Said}
 use Rattle.jvm_log.specs.Parts.{◌>>=◌, address_after, address_at, after, level_after, level_at, number_after, number_at}
 use Rattle.jvm_log.specs.Parts.{only, past, space_at}
 
--- `[uptime][thread][level][tags] `: the thread, and what stands after it.
+-- `[uptime][thread][level][tags] `: the thread, whose number may be padded, and what stands after the
+-- head.
 unfoldable pub head_of : List ℕ → Option (ℕ × List ℕ)
 head_of line = do
   uptime ← after (codes "[") line
   rest ← past 93 uptime
   start ← after (codes "[") rest
   thread ← number_at start
-  level ← after (codes "][") thread.1
+  rest ← past 93 thread.1
+  level ← after (codes "[") rest
   rest ← past 93 level
   tags ← after (codes "[") rest
   rest ← past 93 tags

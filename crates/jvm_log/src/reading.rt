@@ -26,14 +26,16 @@ pub fn said_in(line: &[u8]) -> Option<Said>
     })
 }
 
-/// Reads the head of a line, `[uptime][thread][level][tags] `: the thread, and what stands after it.
+/// Reads the head of a line, `[uptime][thread][level][tags] `: the thread, and what stands after the
+/// head. The JVM pads a short thread's number with spaces.
 #[tactic(auto, unfolding(crate::specs::Reading::head_of))]
 fn head_of(line: &[u8]) -> Option<(u64, &[u8])>
     ensures { option_map (λ read. (read.0, read.1.now)) result ≡ head_of line.now }
 {
     let rest = past(b']', after(b"[".as_slice(), line)?)?;
     let (thread, rest) = number_at(after(b"[".as_slice(), rest)?)?;
-    let rest = past(b']', after(b"][".as_slice(), rest)?)?;
+    let rest = past(b']', rest)?;
+    let rest = past(b']', after(b"[".as_slice(), rest)?)?;
     let rest = past(b']', after(b"[".as_slice(), rest)?)?;
     Some((thread, after(b" ".as_slice(), rest)?))
 }

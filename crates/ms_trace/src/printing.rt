@@ -53,7 +53,10 @@ fn print_gap<A: Allocator>(text: &mut Vec<u8, A>, lines: u32) -> Result<(), Allo
 }
 
 /// Prints a command at the end of a text, without a newline. This project's choice.
-pub fn print_command<A: Allocator>(text: &mut Vec<u8, A>, command: Command) -> Result<(), AllocError>
+pub fn print_command<A: Allocator>(
+    text: &mut Vec<u8, A>,
+    command: Command,
+) -> Result<(), AllocError>
     ensures printed { OnOk result (text.new.items ≡ text.old.items ++ spelling_of command) }
     ensures valid { IsValid command }
 {
