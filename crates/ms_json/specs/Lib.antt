@@ -1,0 +1,6 @@
+pub mod Json
+pub mod Settings
+pub mod Series
+pub mod Rows
+pub mod Runs
+pub mod Begun
