@@ -4,3 +4,5 @@ pub mod Series
 pub mod Rows
 pub mod Runs
 pub mod Begun
+pub mod Told
+pub mod TheRun

@@ -1,12 +1,9 @@
 -- The replies in compact form: the longest runs of lines that follow one another by number and have
 -- the same reply (this project's choice).
-use Rattle.std.specs.Prelude.{◌≡◌, ℕ, ◌+◌, ◌==◌, ◌&&◌, Bool, true, false, List, [], ◌∷◌, ◌++◌, if◌then◌else◌, reverse, map, nat_eq}
+use Rattle.std.specs.Prelude.{ℕ, ◌+◌, ◌==◌, ◌&&◌, Bool, List, [], ◌∷◌, if◌then◌else◌, reverse, map, nat_eq}
 use Rattle.std.specs.Cmp.Lexicographic.{pointwise}
 use Rattle.serde_json.specs.Data.{Data, string}
-use Rattle.serde_json.specs.Written.{compact_text, items_text}
-use Rattle.ms_base.specs.declared.step.Reply.{Reply}
-use Rattle.ms_base.specs.ReplyText.{reply_text}
-use Rattle.ms_json.specs.Json.{items, list_of, whole}
+use Rattle.ms_json.specs.Json.{list_of, whole}
 
 -- Lines from a first to a last, and the text of the reply to each.
 pub record Run : Type 0 where

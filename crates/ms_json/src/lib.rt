@@ -6,7 +6,12 @@
 //! `ms_course` and `serde_json`. Takes memory for the text; nothing waits.
 #![tactic(auto)]
 
-mod scalars;
 mod lists;
+mod replies;
+mod runs;
+mod scalars;
 mod series;
 mod settings;
+
+pub use runs::ReplyRuns;
+pub use series::Series;

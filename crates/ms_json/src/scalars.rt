@@ -54,9 +54,5 @@ pub(crate) fn push_label(
 pub(crate) fn push_comma(text: &mut String, later: bool) -> Result<(), AllocError>
     ensures { OnOk result (string_bytes text.new ≡ string_bytes text.old ++ comma_if later) }
 {
-    if later {
-        text.push_str(",")
-    } else {
-        Ok(())
-    }
+    if later { text.push_str(",") } else { Ok(()) }
 }

@@ -1,0 +1,2 @@
+pub mod BegunLemmas
+pub mod RunLemmas
