@@ -6,3 +6,5 @@ pub mod Runs
 pub mod Begun
 pub mod Told
 pub mod TheRun
+pub mod State
+pub mod Labels

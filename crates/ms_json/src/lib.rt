@@ -6,12 +6,20 @@
 //! `ms_course` and `serde_json`. Takes memory for the text; nothing waits.
 #![tactic(auto)]
 
+mod counted;
+mod holders;
+mod labels;
 mod lists;
 mod replies;
+mod roots;
 mod runs;
 mod scalars;
 mod series;
 mod settings;
+mod spaces;
+mod state;
 
+pub use labels::Label;
 pub use runs::ReplyRuns;
 pub use series::Series;
+pub use state::push_state;

@@ -19,7 +19,7 @@ pub(crate) fn push_numbers(
     text.push_str("[")?;
     for (place, value) in values.iter().enumerate() {
         push_comma(text, place > 0)?;
-        push_number(alloc, text, *value)?;
+        push_number(alloc, text, u128::from(*value))?;
     }
     text.push_str("]")
 }
@@ -29,8 +29,8 @@ pub(crate) fn push_counts(
     alloc: Global,
     text: &mut String,
     label: &str,
-    count: u64,
-    rows: &[(&'static str, u64)],
+    count: u128,
+    rows: &[(&'static str, u128)],
 ) -> Result<(), AllocError>
     ensures { OnOk result (string_bytes text.new
         ≡ string_bytes text.old ++ compact_text (counts ((label.now, count) ∷ rows_in rows.now))) }
@@ -47,7 +47,7 @@ pub(crate) fn push_worded(
     text: &mut String,
     label: &str,
     word: &str,
-    rows: &[(&'static str, u64)],
+    rows: &[(&'static str, u128)],
 ) -> Result<(), AllocError>
     ensures { OnOk result (string_bytes text.new
         ≡ string_bytes text.old ++ compact_text (worded label.now word.now (rows_in rows.now))) }
@@ -63,7 +63,7 @@ pub(crate) fn push_worded(
 pub(crate) fn push_more_counts(
     alloc: Global,
     text: &mut String,
-    rows: &[(&'static str, u64)],
+    rows: &[(&'static str, u128)],
 ) -> Result<(), AllocError>
     ensures { OnOk result (string_bytes text.new
         ≡ string_bytes text.old ++ members_text true (count_members (rows_in rows.now))) }

@@ -36,7 +36,7 @@ fn push_worth(alloc: Global, text: &mut String, word: &str, number: u64) -> Resu
         ≡ string_bytes text.old ++ (word.now ++ compact_text (whole number))) }
 {
     text.push_str(word)?;
-    push_number(alloc, text, number)
+    push_number(alloc, text, u128::from(number))
 }
 
 /// Returns the name of a refusal, without its numbers.

@@ -150,8 +150,8 @@ fn push_bounds(alloc: Global, text: &mut String, run: Lines) -> Result<(), Alloc
         ++ (91 ∷ (compact_text (whole run.first) ++ 44 ∷ (compact_text (whole run.last) ++ 44 ∷ [])))) }
 {
     text.push_str("[")?;
-    push_number(alloc, text, u64::from(run.first))?;
+    push_number(alloc, text, u128::from(run.first))?;
     text.push_str(",")?;
-    push_number(alloc, text, u64::from(run.last))?;
+    push_number(alloc, text, u128::from(run.last))?;
     text.push_str(",")
 }

@@ -20,11 +20,12 @@ pub(crate) fn push_value(alloc: Global, text: &mut String, value: &Value) -> Res
 }
 
 /// Appends a whole number.
-pub(crate) fn push_number(alloc: Global, text: &mut String, number: u64) -> Result<(), AllocError>
+pub(crate) fn push_number(alloc: Global, text: &mut String, number: u128) -> Result<(), AllocError>
     ensures { OnOk result (string_bytes text.new
         ≡ string_bytes text.old ++ compact_text (whole number)) }
 {
-    push_value(alloc, text, &Value::from(number))
+    let piece = format!(in alloc; "{number}")?;
+    text.push_str(&piece)
 }
 
 /// Appends a word between quotes.
