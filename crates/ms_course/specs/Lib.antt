@@ -1,0 +1,4 @@
+pub mod Course
+pub mod Standing
+pub mod Fewness
+pub mod Laws

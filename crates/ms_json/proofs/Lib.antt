@@ -1,0 +1,3 @@
+pub mod BegunLemmas
+pub mod RunLemmas
+pub mod StateLemmas

@@ -1,0 +1,10 @@
+pub mod Json
+pub mod Settings
+pub mod Series
+pub mod Rows
+pub mod Runs
+pub mod Begun
+pub mod Told
+pub mod TheRun
+pub mod State
+pub mod Labels

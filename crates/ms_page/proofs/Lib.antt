@@ -1,0 +1,2 @@
+pub mod ScaleLemmas
+pub mod EscapeLemmas

@@ -1,0 +1,5 @@
+pub mod Scale
+pub mod Axis
+pub mod Escape
+pub mod Tiles
+pub mod Laws
