@@ -10,7 +10,7 @@ use Rattle.clap.specs.declared.error.kind.ErrorKind.{ErrorKind}
 use Rattle.clap.specs.declared.error.kind.ErrorKind.TheVariants.{DisplayHelp, DisplayVersion, OutOfMemory}
 use Rattle.metarun.proofs.OptionLemmas.{detail_unasked, number_unasked, policy_unasked}
 use Rattle.clap.proofs.OnLiterals.{clap_on_literals}
-use Rattle.metarun.specs.declared.options.Options.{Options}
+use Rattle.metarun.specs.declared.asked.Options.{Options}
 use Rattle.metarun.specs.declared.options.Refused.{Refused}
 use Rattle.metarun.specs.declared.options.Refused.TheVariants as refused
 use Rattle.metarun.specs.Asked.{AreAsked, AreRead, IsAllowed, IsDefault, IsTold, SaysAlone}

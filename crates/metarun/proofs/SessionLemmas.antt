@@ -27,7 +27,7 @@ use Rattle.ms_run.specs.Course.{Course, passed}
 use Rattle.ms_run.specs.Peaks.{ArePeaks, ArePeaksIfKept}
 use Rattle.ms_run.specs.Replay.{Answers, AreOf, HasDetail, IsDetailed, Reports}
 use Rattle.ms_run.proofs.PeakLemmas.{any_peaks}
-use Rattle.metarun.specs.declared.options.Options.{Options}
+use Rattle.metarun.specs.declared.asked.Options.{Options}
 use Rattle.metarun.specs.Session.{Follows, Outputs}
 
 -- Details that are told, and right, are those of the machine.

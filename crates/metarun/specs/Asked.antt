@@ -8,7 +8,7 @@ use Rattle.ms_base.specs.declared.policy.Policy.TheVariants as policy
 use Rattle.ms_loaders.specs.declared.details.Detail.{Detail}
 use Rattle.ms_loaders.specs.declared.details.Detail.TheVariants.{Basic, Full}
 use Rattle.metarun.specs.CommandLine.{IsCommandLine}
-use Rattle.metarun.specs.declared.options.Options.{Options}
+use Rattle.metarun.specs.declared.asked.Options.{Options}
 use Rattle.metarun.specs.declared.options.Refused.{Refused}
 use Rattle.metarun.specs.declared.options.Refused.TheVariants.{Help, OutOfMemory, Usage}
 

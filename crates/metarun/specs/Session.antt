@@ -21,7 +21,7 @@ use Rattle.ms_report.specs.ReplyLines.{answers_text}
 use Rattle.ms_run.specs.Course.{Course, begun, passed}
 use Rattle.ms_run.specs.Peaks.{ArePeaks}
 use Rattle.ms_run.specs.Replay.{Advances, IsDetailed, IsReplay}
-use Rattle.metarun.specs.declared.options.Options.{Options}
+use Rattle.metarun.specs.declared.asked.Options.{Options}
 
 -- What follows the reply to a command, before which these replies were given: where a report is
 -- asked for that of the machine, with as much detail as the options say, and with the peaks of all

@@ -5,7 +5,7 @@ use Rattle.ms_trace.specs.Faults.{HasFault}
 use Rattle.clap.specs.Words.{Text}
 use Rattle.metarun.specs.Asked.{AreAsked}
 use Rattle.metarun.specs.Session.{IsAnswered, IsBrokenOff}
-use Rattle.metarun.specs.declared.options.Options.{Options}
+use Rattle.metarun.specs.declared.asked.Options.{Options}
 
 -- A session with the options that were asked for wrote its output for the text that was there to be
 -- read.

@@ -10,6 +10,7 @@
 //! trace is read and parsed before anything runs. Stands on `ms_trace`, `ms_run` and `ms_report`.
 #![tactic(auto)]
 
+mod asked;
 mod devices;
 mod failure;
 mod options;

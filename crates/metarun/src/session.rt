@@ -7,9 +7,9 @@ ghost use Rattle.ms_trace.specs.Faults.{HasFault};
 ghost use Rattle.metarun.specs.Failure.{Blames, IsSettled};
 ghost use Rattle.metarun.specs.Session.{IsOutput, IsAnswered, IsBrokenOff, IsWhole};
 
+use crate::asked::Options;
 use crate::devices::{most_bytes, read_text, write_text};
 use crate::failure::Failure;
-use crate::options::Options;
 use ms_report::AnswerText;
 use ms_run::{NoGate, replay_into};
 use ms_trace::parse_within;

@@ -3,7 +3,7 @@ ghost use Rattle.std.specs.Prelude.{◌≡◌, ◌≢◌, ◌≤◌, ◌⊎◌, 
 ghost use Rattle.std.specs.Io.KnownBytes.{Keeps};
 ghost use Rattle.metarun.specs.Asked.{IsDefault, IsTold};
 ghost use Rattle.metarun.specs.CommandLine.{AskToBeTold};
-ghost use Rattle.metarun.specs.declared.options.Options.{Options};
+ghost use Rattle.metarun.specs.declared.asked.Options.{Options};
 ghost use Rattle.metarun.specs.Session.{IsAnswered};
 ghost use Rattle.metarun.specs.Start.{IsFaulty, IsObeyed, IsStopped};
 
