@@ -266,18 +266,22 @@ def phases_of_two_lines(bench, workers, loaders, phases):
     return figures
 
 
+def scaled_tests(scale, more):
+    """The traces that can be as hard at more lines."""
+    yield Test(f"block names that hash to one place{more}", names_of_one_place, (scale,))
+    for workers in (1, 2):
+        yield Test(f"the deepest tree of free blocks, {workers} at work{more}", deepest_tree, (workers, scale))
+    for order in ORDERS:
+        yield Test(f"free blocks that come in {order} order{more}", free_blocks_in_order, (order, scale))
+    yield Test(f"the largest block comes and goes{more}", the_largest_block_comes_and_goes, (scale,))
+    for workers in (1, 8):
+        yield Test(f"all 65,536 loader names, {workers} at work{more}", all_loader_names, (workers, scale))
+    for workers in (1, 2, 8):
+        yield Test(f"45,000 phases of one line, {workers} at work{more}", phases_of_one_line, (workers, scale))
+
+
 def tests():
-    for scale, more in ((1, ""), (TENFOLD, ", ten times the lines")):
-        yield Test(f"block names that hash to one place{more}", names_of_one_place, (scale,))
-        for workers in (1, 2):
-            yield Test(f"the deepest tree of free blocks, {workers} at work{more}", deepest_tree, (workers, scale))
-        for order in ORDERS:
-            yield Test(f"free blocks that come in {order} order{more}", free_blocks_in_order, (order, scale))
-        yield Test(f"the largest block comes and goes{more}", the_largest_block_comes_and_goes, (scale,))
-        for workers in (1, 8):
-            yield Test(f"all 65,536 loader names, {workers} at work{more}", all_loader_names, (workers, scale))
-        for workers in (1, 2, 8):
-            yield Test(f"45,000 phases of one line, {workers} at work{more}", phases_of_one_line, (workers, scale))
+    yield from scaled_tests(1, "")
     yield Test("one loader of 49,500 chunks", one_loader_of_many_chunks)
     yield Test("a pool of small parts", a_pool_of_small_parts)
     yield Test("a limit among small parts", a_limit_among_small_parts)
@@ -287,3 +291,8 @@ def tests():
     for workers in (1, 2, 8):
         yield Test(f"22,000 phases of two lines beside 16,000 loaders, {workers} at work", phases_of_two_lines,
                    (workers, 16000, 22000))
+
+
+def long_tests():
+    """Ten times the lines. Apart, and last: a run's memory can't be seen below this process's own, which such texts raise."""
+    yield from scaled_tests(TENFOLD, ", ten times the lines")

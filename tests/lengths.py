@@ -1,4 +1,7 @@
 """Traces of many lines: `--max-lines` is the limit, and neither memory nor time grows faster than the lines."""
+import resource
+
+import hostile
 from claims import Test, expect, expect_ended, first_difference
 from program import MEGABYTE
 
@@ -16,12 +19,11 @@ def a_limit_is_kept(bench, limit):
     most = limit or DEFAULT
     wanted = b"".join(b"%d ok\n" % number for number in range(1, most + 1))
     for lines in (most - 1, most):
-        ended = bench.run(asked(limit), b"sync\n" * lines, seconds=100)
-        expect_ended(ended, 0)
+        ended = bench.run(asked(limit), b"sync\n" * lines, seconds=100, limits={resource.RLIMIT_AS: MOST_MEMORY})
+        expect_ended(ended, 0, output=ended.output)
         expected = wanted if lines == most else wanted[:-len(b"%d ok\n" % most)]
         expect(ended.output == expected, first_difference(ended.output, expected))
-        expect(ended.memory < MOST_MEMORY, "it took megabytes", ended.memory // MEGABYTE)
-    figures = f"{ended.seconds:.2f} s, {ended.memory // MEGABYTE} MB"
+    figures = f"{ended.seconds:.2f} s"
     for more in (b"\n", b"#", b"sync", b"x" * 81):
         ended = bench.run(asked(limit), b"sync\n" * most + more, seconds=100)
         expect_ended(ended, 1, b"metarun: line %d: TooManyLines\n" % (most + 1), b"")
@@ -57,21 +59,23 @@ def churn(lines):
 
 
 def costs_stay_flat(bench):
-    """Ten times the lines take at most fourteen times the processor time, and the memory of each line doesn't grow."""
-    figures, costs = [], []
-    for lines in (DEFAULT, 10 * DEFAULT):
-        text = churn(lines)
-        ended = min((bench.run(asked(GREATEST), text, seconds=100) for _ in range(3)), key=lambda ended: ended.seconds)
+    """Ten times the lines take at most fourteen times the processor time, and five times the memory that the system maps."""
+    costs = []
+    for lines, most in ((DEFAULT, 40), (10 * DEFAULT, 200)):
+        text, limits = churn(lines), {resource.RLIMIT_AS: most * MEGABYTE}
+        ended = min((bench.run(asked(GREATEST), text, seconds=100, limits=limits) for _ in range(3)), key=lambda ended: ended.seconds)
         expect_ended(ended, 0, output=ended.output)
-        costs.append((ended.seconds, ended.memory / lines))
-        figures.append(f"{lines} lines: {ended.seconds / lines * 1e9:.0f} ns and {ended.memory / lines:.0f} bytes a line")
-    expect(costs[1][0] < 14 * costs[0][0] and costs[1][1] < 1.1 * costs[0][1], figures)
-    return "; ".join(figures)
+        costs.append(ended.seconds)
+    figures = f"{costs[0] / DEFAULT * 1e9:.0f} and {costs[1] / DEFAULT * 1e8:.0f} ns a line"
+    expect(costs[1] < 14 * costs[0], figures)
+    return figures
 
 
 def tests():
+    # What needs much memory here comes last.
     for limit in (None, 1, DEFAULT + 1, GREATEST):
         yield Test(f"a limit of {limit or DEFAULT} lines is kept" + (", which none asked for" if limit is None else ""), a_limit_is_kept, (limit,))
     yield Test("no more is read than the limit of lines allows", no_more_is_read)
     yield Test("a line has its number, however great", each_line_has_its_number)
     yield Test("costs stay flat from 100,000 lines to 1,000,000", costs_stay_flat)
+    yield from hostile.long_tests()

@@ -32,10 +32,11 @@
  * compares what nizgrabul_granules tells then with what was committed before. What words hold is the
  * program's own matter: those of a freed block may go to the loader's next block as they are.
  *
- * To build, with the toolchain's command rt on the PATH, at the top of the repository:
+ * To build over the released library, with the toolchain's command rt on the PATH, at the top of the
+ * repository:
  *
- *     (cd crates/ms_c && rt lib)
- *     cc -Iexamples/c program.c crates/ms_c/out/libms_c.a "$(dirname "$(rt doc)")/c/liblibc_c.a"
+ *     make -C examples/c libms_c.a
+ *     cc -Iexamples/c program.c examples/c/libms_c.a "$(dirname "$(rt doc)")/c/liblibc_c.a"
  *
  * What a program owes, since nothing checks it:
  * - A handle is filled with zeros before its first use. After that only these calls read or write it; it
