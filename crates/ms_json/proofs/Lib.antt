@@ -1,3 +1,0 @@
-pub mod BegunLemmas
-pub mod RunLemmas
-pub mod StateLemmas
