@@ -246,6 +246,14 @@ impl RawArena {
         self.books.used()
     }
 
+    /// Returns how many words the live blocks have together, modulo 2^64, as they were counted.
+    /// Takes no memory, and looks at no chunk and no block.
+    pub fn live(&self) -> u64
+        ensures { result ≡ self.now.total }
+    {
+        self.total
+    }
+
     /// Tells for what kind of loader the arena is. Takes no memory.
     pub fn kind(&self) -> Kind
         ensures { result ≡ self.now.kind }

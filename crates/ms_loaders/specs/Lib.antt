@@ -14,6 +14,7 @@ pub mod Sums
 pub mod Details
 pub mod Collecting
 pub mod Used
+pub mod Amounts
 pub mod LoaderSums
 pub mod Holder
 pub mod Finding

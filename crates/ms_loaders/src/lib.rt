@@ -13,6 +13,7 @@
 //! for a source that does.
 #![tactic(auto)]
 
+mod amounts;
 mod collecting;
 mod details;
 mod in_use;
@@ -26,6 +27,7 @@ mod serving;
 mod system;
 mod totals;
 
+pub use amounts::Amounts;
 pub use details::{Detail, Details, LoaderDetails};
 pub use loader::Loader;
 pub use loaders::{Iter, Loaders, Values};

@@ -15,12 +15,14 @@ ghost use Rattle.ms_base.specs.Totals.{used_of};
 ghost use Rattle.ms_pool.specs.Source.{LeavesRest};
 ghost use Rattle.ms_loaders.specs.Loader.{owner_in, account_in, new_loader, with_state, IsSoundView, AllocatesBlock, BlockRefused};
 ghost use Rattle.ms_loaders.specs.Loader.{HasWord, WritesWord, FreesBlock, LacksWord, LacksName};
+ghost use Rattle.ms_loaders.specs.Amounts.{amounts_by};
 ghost use Rattle.ms_loaders.specs.Sums.{AreSumsIn};
 ghost use Rattle.ms_loaders.specs.GivenBack.{AreAccountsOf};
 
 mod finding;
 mod room;
 
+use crate::amounts::Amounts;
 use crate::naming::{Names, allocate_in};
 use ms_arena::{ArenaTotals, RawArena};
 use ms_base::{Block, Kind, NODE_WORDS, Refusal, SLOTS, Space};
@@ -281,6 +283,20 @@ impl Loader {
         ensures small { result.0.capacity + result.1.capacity < 2 ^ 53 }
     {
         (self.arena.totals(), self.class_arena.totals())
+    }
+
+    /// Returns the words that are in use and those that are live, in each space. Takes no memory, and
+    /// looks at no chunk and no block.
+    #[inline(always)]
+    pub fn amounts(&self) -> Amounts
+        ensures { result ≡ amounts_by self.now.state }
+    {
+        Amounts {
+            used: self.arena.used(),
+            live: self.arena.live(),
+            class_used: self.class_arena.used(),
+            class_live: self.class_arena.live(),
+        }
     }
 
     /// Tells how many words are in use, in both spaces: the sum of the tops. Takes no memory, and

@@ -19,6 +19,7 @@ ghost use Rattle.ms_base.specs.declared.kind.Space.TheVariants.{NonClass, Class}
 ghost use Rattle.ms_loaders.specs.GivenBack.{AreAccountsOf, AreAccountsAt};
 ghost use Rattle.ms_loaders.specs.Loader.{IsSoundView, new_loader};
 ghost use Rattle.ms_loaders.specs.Loaders.{LendsLoader, InsertRefused};
+ghost use Rattle.ms_loaders.specs.Amounts.{amounts_at};
 ghost use Rattle.ms_loaders.specs.Used.{used_at};
 
 mod boxed;
@@ -28,6 +29,7 @@ mod places;
 mod spares;
 mod walks;
 
+use crate::amounts::Amounts;
 use crate::loader::Loader;
 use boxed::Boxed;
 use ms_base::{Kind, Refusal};
@@ -318,6 +320,17 @@ impl Loaders {
         match self.get(name) {
             Some(loader) => loader.used(),
             None => 0,
+        }
+    }
+
+    /// Returns the words of the loader of a name that are in use and those that are live, in each
+    /// space, and 0 of all where there is none. Takes no memory, and looks at no chunk and no block.
+    pub fn amounts_by(&self, name: u16) -> Amounts
+        ensures { result ≡ amounts_at (named self.now name) }
+    {
+        match self.get(name) {
+            Some(loader) => loader.amounts(),
+            None => Amounts::NONE,
         }
     }
 

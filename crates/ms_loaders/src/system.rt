@@ -6,6 +6,7 @@
 //! uses its owner numbers up. After it `committed` is called: it reads two counters, and tells what
 //! is true of every pool. Takes memory for loaders, chunks, blocks and replies; nothing waits.
 ghost use Rattle.std.specs.Prelude.{◌≡◌, ◌≢◌, ◌+◌, ◌↔◌, IfOk, OnOk, OnErr, IfErr, [], Ok, Err, length};
+ghost use Rattle.ms_base.specs.declared.kind.Space.TheVariants.{Class};
 ghost use Rattle.ms_base.specs.State.{empty_machine, limits_of};
 ghost use Rattle.ms_base.specs.Totals.{committed_words, used_words, over_spaces, sums_of};
 ghost use Rattle.ms_base.specs.Good.{IsGood};
@@ -15,6 +16,7 @@ ghost use Rattle.ms_base.specs.Names.{named};
 ghost use Rattle.ms_base.specs.Laws.Sum.{HoldsNothing};
 ghost use Rattle.ms_loaders.specs.System.{HasNoValue, IsNoRefusal, reply_of};
 ghost use Rattle.ms_loaders.specs.Sums.{sums_in};
+ghost use Rattle.ms_loaders.specs.Amounts.{amounts_if};
 ghost use Rattle.ms_loaders.specs.Used.{used_if};
 
 mod committing;
@@ -26,6 +28,7 @@ mod mapping;
 mod settling;
 mod sums;
 
+use crate::amounts::Amounts;
 use crate::collecting::{gather, space_totals};
 use crate::loaders::Loaders;
 use crate::serving::serve;
@@ -159,12 +162,28 @@ impl System {
         self.loaders.used_by(name)
     }
 
+    /// Returns the words of one loader that are in use and those that are live, in each space, and 0
+    /// of all where none has the name. Takes no memory, and looks at no other loader and no block.
+    pub fn amounts_by(&self, name: u16) -> Amounts
+        ensures { result ≡ amounts_if (named self.now.loaders name) }
+    {
+        self.loaders.amounts_by(name)
+    }
+
     /// Tells the committed words of both spaces, a multiple of a granule's. Takes no memory, and
     /// looks at no chunk and no loader.
     pub fn committed(&self) -> u64
         ensures { result ≡ over_spaces (λ space. committed_words space self.now) }
     {
         self.pool.committed() * granule(self.policy)
+    }
+
+    /// Returns the committed words of the class space, a multiple of a granule's. Takes no memory,
+    /// and looks at the class space's granules alone, at most 8192 bits.
+    pub fn class_committed(&self) -> u64
+        ensures { result ≡ committed_words Class self.now }
+    {
+        self.pool.class_committed() * granule(self.policy)
     }
 
     /// Tells all sums over the system, and a row for each loader in order of name. Takes memory for

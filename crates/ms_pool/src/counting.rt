@@ -16,7 +16,7 @@ ghost use Rattle.ms_pool.specs.Counting.{HasRoom};
 
 use crate::lender::Lender;
 use crate::totals::{LEVELS, PoolTotals};
-use ms_base::{Level, NODE_WORDS, SLOTS, Space, granule};
+use ms_base::{Level, NODE_WORDS, Space, granule};
 use ms_buddy::PartTable;
 use std::alloc::Global;
 
@@ -66,17 +66,15 @@ impl Lender {
         let _open_ids = self.counts.open_ids;
     }
 
-    /// Tells how many granules of a space are committed.
-    fn committed_in(&self, space: Space) -> u64
+    /// Tells how many granules of a space are committed, counted over its own slots.
+    pub(crate) fn committed_in(&self, space: Space) -> u64
         requires { IsKept self.now }
         ensures { result ≡ length (granules_in space self.now.nodes) }
     {
-        let count = u64::from(SLOTS) * (NODE_WORDS / granule(self.policy));
-        let below = count - self.nodes.missing(0, count);
-        match space {
-            Space::NonClass => below,
-            Space::Class => self.nodes.committed() - below,
-        }
+        let (first, end) = self.slots_of(space);
+        let each = NODE_WORDS / granule(self.policy);
+        let count = u64::from(end - first) * each;
+        count - self.nodes.missing(u64::from(first) * each, count)
     }
 
     /// Counts the free parts of a space by level.

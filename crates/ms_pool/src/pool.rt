@@ -209,6 +209,14 @@ impl Pool {
         self.lender.committed()
     }
 
+    /// Returns how many granules of the class space are committed, at most 8192. Takes no memory,
+    /// and counts over the class space's own slots alone.
+    pub fn class_committed(&self) -> u64
+        ensures { result ≡ length self.now.class_committed }
+    {
+        self.lender.committed_in(Space::Class)
+    }
+
     /// Tells by which policy granules are committed and given back. Takes no memory.
     pub fn policy(&self) -> Policy
         ensures { result ≡ self.now.limits.policy }

@@ -5,17 +5,20 @@ use Rattle.std.specs.Prelude.{◌||◌}
 use Rattle.std.proofs.lemmas.List.{take_more}
 use Rattle.std.proofs.lemmas.List.Elements.{All-append, All-from_recursion, All-nil}
 use Rattle.ms_base.specs.State.{Limits, Machine, empty_machine}
+use Rattle.ms_base.specs.declared.step.Reply.{Reply}
+use Rattle.ms_base.specs.declared.step.Reply.TheVariants.{Ok as Done}
 use Rattle.ms_base.specs.declared.step.Step.{Step}
 use Rattle.ms_base.specs.Transition.{Transition}
 use Rattle.ms_trace.specs.declared.trace.Command.TheVariants.{Step as Asks}
 use Rattle.ms_trace.specs.declared.trace.Line.{Line}
+use Rattle.ms_trace.specs.Steps.{step_of}
 use Rattle.ms_loaders.specs.declared.replies.Answer.{Answer}
 use Rattle.ms_loaders.specs.declared.details.Detail.{Detail}
 use Rattle.ms_run.specs.Counting.{HasTaken}
 use Rattle.ms_run.specs.Course.{Course, begun, on_to, passed}
 use Rattle.ms_run.specs.Peaks.{ArePeaksIfKept}
 use Rattle.ms_run.specs.Replay.{Answers, IsDetailed}
-use Rattle.ms_run.specs.Sink.{AreOfLines, AreOfRun, Puts, PutsAll}
+use Rattle.ms_run.specs.Sink.{AreOfLines, AreOfRun, IsOfEnd, IsOfLine, Puts, PutsAll}
 use Rattle.ms_run.specs.declared.alone.Metered.{Metered}
 use Rattle.ms_run.proofs.DetailLemmas.{plain}
 
@@ -79,13 +82,16 @@ pub step_answered : {S : Type 0} (took : S → S → List Answer → Type 0) (de
     → line.command ≡ Asks step → PutsAll took (answer ∷ []) sink whole → answer.line ≡ line.number
     → answer.report ≡ None → Transition old.system step answer.reply new.system
     → ((states : List Machine) → ArePeaksIfKept states old.peaks → ArePeaksIfKept (new.system ∷ states) new.peaks)
-    → Puts took (AreOfLines detail old (line ∷ []) new) sink whole
+    → Puts took (IsOfLine detail old line answer.reply new) sink whole
 step_answered took detail old new line step answer sink whole asks puts number none told raised = (
   answer ∷ [],
   puts,
   (
-    All-from_recursion (IsDetailed detail) (answer ∷ []) (plain detail answer none, tt),
+    answer,
+    refl,
+    plain detail answer none,
     λ course taken. (
+      refl,
       on_to new.system course,
       (
         on_to new.system course,
@@ -99,6 +105,36 @@ step_answered took detail old new line step answer sink whole asks puts number n
         peaks = raised (passed course) taken.peaks;
       },
     ),
+  ),
+)
+
+-- A line that asks none is answered, and the course stays.
+pub end_answered : {S : Type 0} (took : S → S → List Answer → Type 0) (detail : Detail) (run : Metered) (line : Line)
+    (sink whole : S) → step_of line.command ≡ None → Puts took (IsOfEnd detail run line) sink whole
+    → Puts took (IsOfLine detail run line Done run) sink whole
+end_answered took detail run line sink whole asks told = (
+  told.0,
+  told.1,
+  (
+    told.2.0,
+    told.2.1,
+    told.2.2,
+    λ course taken.
+        let its = told.2.3 course taken in
+        (its.done, course, (course, its.number, rw asks (its.done, refl), its.report, (refl, refl)), taken),
+  ),
+)
+
+-- The one answer to a line is the list of its answers.
+pub line_answered : {S : Type 0} (took : S → S → List Answer → Type 0) (detail : Detail) (old new : Metered) (line : Line)
+    (reply : Reply) (sink whole : S) → Puts took (IsOfLine detail old line reply new) sink whole
+    → Puts took (AreOfLines detail old (line ∷ []) new) sink whole
+line_answered took detail old new line reply sink whole told = (
+  told.2.0 ∷ [],
+  subst (λ (l : List Answer). PutsAll took l sink whole) told.2.1 told.1,
+  (
+    All-from_recursion (IsDetailed detail) (told.2.0 ∷ []) (told.2.2, tt),
+    λ course taken. (told.2.3 course taken).1,
   ),
 )
 

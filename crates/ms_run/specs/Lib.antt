@@ -13,3 +13,5 @@ pub mod Answering
 pub mod Moved
 pub mod Counting
 pub mod Sink
+pub mod Seeing
+pub mod Observing

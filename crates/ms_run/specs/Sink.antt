@@ -3,6 +3,7 @@ use Rattle.std.specs.Prelude.{◌≡◌, ℕ, Option, List, [], ◌∷◌, ◌++
 use Rattle.std.specs.List.{All}
 use Rattle.ms_base.specs.State.{Limits, empty_machine, limits_of}
 use Rattle.ms_base.specs.declared.settings.Settings.{Settings}
+use Rattle.ms_base.specs.declared.step.Reply.{Reply}
 use Rattle.ms_trace.specs.declared.trace.Line.{Line}
 use Rattle.ms_loaders.specs.declared.details.Detail.{Detail}
 use Rattle.ms_loaders.specs.declared.replies.Answer.{Answer}
@@ -23,6 +24,13 @@ Puts took are old new = (added : List Answer) × PutsAll took added old new × a
 -- Answers are those to some lines by one worker, as a run goes on.
 abbrev pub AreOfLines : Detail → Metered → List Line → Metered → List Answer → Type 0
 AreOfLines detail old lines new answers = All (IsDetailed detail) answers × GoesOnBy old lines answers new
+
+-- There is one answer, to a line that one worker answers with this reply, as a run goes on.
+abbrev pub IsOfLine : Detail → Metered → Line → Reply → Metered → List Answer → Type 0
+IsOfLine detail old line reply new answers =
+    (answer : Answer) × answers ≡ answer ∷ [] × IsDetailed detail answer
+    × ((course : Course) → HasTaken course old
+    → (answer.reply ≡ reply) × (later : Course) × Answers course (line ∷ []) (answer ∷ []) later × HasTaken later new)
 
 -- They are those to all lines of one run, from the machine on that has nothing.
 abbrev pub AreOfRun : Limits → Detail → List Line → List Answer → Type 0

@@ -12,12 +12,12 @@ ghost use Rattle.ms_run.specs.Course.{begun};
 ghost use Rattle.ms_run.specs.Replay.{AreKept};
 ghost use Rattle.ms_run.specs.Metering.{used_words_of};
 ghost use Rattle.ms_run.specs.Counting.{HasTaken, IsCounted, used_around};
-ghost use Rattle.ms_run.specs.Sink.{AreOfLines, AreOfRun, Puts};
+ghost use Rattle.ms_run.specs.Sink.{AreOfLines, AreOfRun, IsOfLine, Puts};
 
 use crate::between::answer_between;
 use crate::gate::Gate;
 use crate::peaks::{begin, raise};
-use ms_base::{Settings, Step};
+use ms_base::{Reply, Settings, Step};
 use ms_loaders::{Answer, AnswerSink, Detail, Peaks, Replies, System};
 use ms_trace::{Command, Line};
 use std::alloc::{AllocError, Global};
@@ -89,8 +89,8 @@ pub fn answer_lines<G: Gate, S: AnswerSink>(
     Ok(())
 }
 
-/// Answers a line: one that asks a step between the gate's two calls.
-fn answer_line<G: Gate, S: AnswerSink>(
+/// Answers a line: one that asks a step between the gate's two calls. Returns the reply.
+pub fn answer_line<G: Gate, S: AnswerSink>(
     alloc: Global,
     gate: &G,
     worker: usize,
@@ -99,14 +99,15 @@ fn answer_line<G: Gate, S: AnswerSink>(
     line: &Line,
     run: &mut Metered,
     sink: &mut S,
-) -> Result<(), AllocError>
+) -> Result<Reply, AllocError>
     requires { IsCounted counts detail run.old }
-    ensures answered { OnOk result
-        (Puts S.took (AreOfLines detail run.old (line.now ∷ []) run.new) sink.old sink.new) }
+    ensures answered { IfOk result (λ reply.
+        Puts S.took (IsOfLine detail run.old line.now reply run.new) sink.old sink.new) }
     ensures counted { OnOk result (IsCounted counts detail run.new) }
 {
     let Command::Step(step) = line.command() else {
-        return answer_between(alloc, run, None, detail, line, sink);
+        answer_between(alloc, run, None, detail, line, sink)?;
+        return Ok(Reply::Ok);
     };
     let number = line.number();
     gate.before(worker, number);
@@ -122,7 +123,7 @@ fn answer_line<G: Gate, S: AnswerSink>(
     run.used = run.used.wrapping_add(after).wrapping_sub(before);
     raise(&mut run.peaks, &run.system, run.used);
     gate.after(worker, number, run.used);
-    Ok(())
+    Ok(reply)
 }
 
 /// Tells the words in use of the loader whose tops a step may move, and 0 where it moves none, or

@@ -69,7 +69,7 @@ fn report_for(
 
 /// Gathers the totals, with the words in use from a count where there is one, the peaks where they
 /// are kept, and their details where they are asked for.
-fn totals_of(run: &Metered, used: Option<u64>, detail: Detail) -> Result<Totals, AllocError>
+pub fn totals_of(run: &Metered, used: Option<u64>, detail: Detail) -> Result<Totals, AllocError>
     requires used { IfSome used (λ words. words ≡ used_words_of run.now.system) }
     requires kept { AreKept detail run.now.peaks }
     ensures of { IfOk result (λ totals. (course : Course) → HasTaken course run.now

@@ -3,7 +3,7 @@ use Rattle.std.proofs.Common.{◌≡◌, ℕ, length, sym, ap, ◌∙◌}
 use Rattle.std.specs.List.{sum_by}
 use Rattle.ms_base.specs.declared.kind.Space.{Space}
 use Rattle.ms_base.specs.State.{ArenaState, arena_of}
-use Rattle.ms_base.specs.Totals.{capacity_of, fronts_of, used_of, kept_of}
+use Rattle.ms_base.specs.Totals.{capacity_of, fronts_of, used_of, kept_of, live_in}
 use Rattle.ms_arena.specs.ArenaSums.{AreSumsOf}
 use Rattle.ms_arena.proofs.HoldLemmas.{IsWithin, held_within}
 use Rattle.ms_arena.specs.declared.totals.ArenaTotals.{ArenaTotals}
@@ -19,6 +19,12 @@ pub within : (a : Inside) → IsLoader a → (space : Space)
 within a its space = held_within (arena_in space a) (named_runs space a.names.entries)
     (is_arena a its space).holds
 
+pub live_is : (a : Inside) → IsLoader a → (space : Space)
+    → (arena_in space a).total ≡ live_in space (view_of a).state
+live_is a its space =
+    (within a its space).total
+    ∙ sym (ap (sum_by (λ (run : ℕ × ℕ). run.1)) (runs_are (words_at a) a.names.entries space))
+
 pub sums_of_arena : (a : Inside) → IsLoader a → (space : Space) (totals : ArenaTotals)
     → AreSumsOf totals (arena_in space a).books (arena_in space a).total
     → AreSumsIn space totals (view_of a).state
@@ -27,8 +33,7 @@ sums_of_arena a its space totals sums = record {
   capacity = sums.capacity ∙ ap (λ (books : ArenaState). capacity_of books.chunks) same;
   fronts = sums.fronts ∙ ap (λ (books : ArenaState). fronts_of books.chunks) same;
   used = sums.used ∙ ap used_of same;
-  live = sums.live_words ∙ (within a its space).total
-      ∙ sym (ap (sum_by (λ (run : ℕ × ℕ). run.1)) (runs_are (words_at a) a.names.entries space));
+  live = sums.live_words ∙ live_is a its space;
   free_blocks = sums.free_blocks ∙ ap kept_of same;
   waste = sums.waste;
 }

@@ -15,6 +15,7 @@ use Rattle.ms_base.specs.Good.{IsGood}
 use Rattle.ms_base.proofs.machine.SumLemmas.{used_below, few_slots, committed_within_slots}
 use Rattle.ms_loaders.specs.Loader.{LoaderView}
 use Rattle.ms_loaders.specs.System.{states_of}
+use Rattle.ms_loaders.specs.Amounts.{amounts_at, amounts_if}
 use Rattle.ms_loaders.specs.Used.{used_by, used_at, used_if}
 use Rattle.ms_loaders.proofs.MappedLemmas.{named-mapped}
 
@@ -49,6 +50,14 @@ committed_fits m good = omega (
   few_slots Class m (good.pools Class),
 )
 
+pub class_committed_fits : (m : Machine) → IsGood m
+    → length m.class_committed * granule_of m.limits.policy ≤ 80 * 1048576
+class_committed_fits m good = omega (
+  arith,
+  committed_within_slots (pool_of Class m) (good.pools Class),
+  few_slots Class m (good.pools Class),
+)
+
 -- A machine's loader of a name has in use what the loader of that name has.
 pub used_mapped : (loaders : List (ℕ × LoaderView)) (name : ℕ)
     → used_at (named loaders name) ≡ used_if (named (states_of loaders) name)
@@ -58,3 +67,13 @@ used_mapped loaders name =
       | Some loader ↦ refl
       | None ↦ refl
     ] ∙ ap used_if (sym (named-mapped (λ (loader : LoaderView). loader.state) loaders name))
+
+-- And so are the words of each space.
+pub amounts_mapped : (loaders : List (ℕ × LoaderView)) (name : ℕ)
+    → amounts_at (named loaders name) ≡ amounts_if (named (states_of loaders) name)
+amounts_mapped loaders name =
+    elim (named loaders name) as (λ found. amounts_at found
+    ≡ amounts_if (option_map (λ (loader : LoaderView). loader.state) found)) [
+      | Some loader ↦ refl
+      | None ↦ refl
+    ] ∙ ap amounts_if (sym (named-mapped (λ (loader : LoaderView). loader.state) loaders name))

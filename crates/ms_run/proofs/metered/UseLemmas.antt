@@ -26,7 +26,7 @@ use Rattle.ms_run.proofs.TouchLemmas.{named_states}
 use Rattle.ms_loaders.proofs.steps.UnloadLemmas.{state_of}
 
 -- The sum of the entries' amounts without one.
-amounts_apart : {X : Type 0} (amount : Option X → ℕ) (es : List (ℕ × X)) (name : ℕ) → amount None ≡ 0
+pub amounts_apart : {X : Type 0} (amount : Option X → ℕ) (es : List (ℕ × X)) (name : ℕ) → amount None ≡ 0
     → sum_by (λ x. amount (Some x)) (values_of es)
     ≡ amount (named es name) + sum_by (λ x. amount (Some x)) (values_of (without es name))
 amounts_apart amount [] name none = omega (arith, none)

@@ -2,7 +2,7 @@ use Rattle.std.proofs.Common.{◌≡◌, ◌∙◌, ◌∷◌, [], ℕ, List, ap
 use Rattle.std.proofs.Math.Seq.{take-length}
 use Rattle.ms_trace.specs.declared.trace.Line.{Line}
 use Rattle.ms_run.specs.Sink.{AreOfLines, Puts}
-use Rattle.ms_run.proofs.AloneLemmas.{none_answered, one_more_answered}
+use Rattle.ms_run.proofs.AloneLemmas.{line_answered, none_answered, one_more_answered}
 use Rattle.ms_run.proofs.alone.answer_lines.Goals as goal
 
 pub loop-line-init : goal.loop-line-init
@@ -17,7 +17,8 @@ loop-line-preserved g c = record {
       c.args.sink.now c.loop-line.sink c.answer_line.new.sink c.loop-line.invariant.answers
       c.loop-line-test.true
       (subst (λ (line : Line). Puts g.S.AnswerSink.took (AreOfLines c.args.detail c.loop-line.run (line ∷ [])
-      c.answer_line.new.run) c.loop-line.sink c.answer_line.new.sink) c.line-item.is c.in_ok-answer_line.ensures.answered);
+      c.answer_line.new.run) c.loop-line.sink c.answer_line.new.sink) c.line-item.is
+      (line_answered g.S.AnswerSink.took c.args.detail _ _ _ _ _ _ c.in_ok-answer_line.ensures.answered));
   counted = c.in_ok-answer_line.ensures.counted;
 }
 
