@@ -9,6 +9,7 @@ mod loaders;
 mod locked_pool;
 mod meeting;
 mod nodes;
+mod observed;
 mod pool;
 mod reports;
 mod runs;

@@ -328,10 +328,10 @@ impl Loaders {
     pub fn amounts_by(&self, name: u16) -> Amounts
         ensures { result ≡ amounts_at (named self.now name) }
     {
-        match self.get(name) {
-            Some(loader) => loader.amounts(),
-            None => Amounts::NONE,
-        }
+        let Some(loader) = self.get(name) else {
+            return Amounts::NONE;
+        };
+        loader.amounts()
     }
 
     /// Tells how many loaders there are, whose names rise. Takes no memory.

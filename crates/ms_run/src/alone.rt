@@ -5,14 +5,14 @@
 //! answers, or what only tells them; where they are counted, the words in use follow, and so do the
 //! peaks, for full reports. A line costs the same however many loaders stand by. Takes memory;
 //! nothing waits.
-ghost use Rattle.std.specs.Prelude.{◌≡◌, IfOk, OnOk, [], ◌∷◌, IsTrue};
+ghost use Rattle.std.specs.Prelude.{◌≡◌, IfOk, OnOk, [], ◌∷◌, None, IsTrue};
 ghost use Rattle.ms_base.specs.Good.{IsGood};
 ghost use Rattle.ms_base.specs.State.{empty_machine, limits_of};
 ghost use Rattle.ms_run.specs.Course.{begun};
 ghost use Rattle.ms_run.specs.Replay.{AreKept};
 ghost use Rattle.ms_run.specs.Metering.{used_words_of};
 ghost use Rattle.ms_run.specs.Counting.{HasTaken, IsCounted, used_around};
-ghost use Rattle.ms_run.specs.Sink.{AreOfLines, AreOfRun, IsOfLine, Puts};
+ghost use Rattle.ms_run.specs.Sink.{AreOfLines, AreOfRun, IsOfLine, Puts, PutsAll};
 
 use crate::between::answer_between;
 use crate::gate::Gate;
@@ -113,17 +113,26 @@ pub fn answer_line<G: Gate, S: AnswerSink>(
     gate.before(worker, number);
     let before = used_by(counts, &run.system, &step);
     let reply = run.system.step(step);
-    sink.put(Answer {
-        line: number,
-        reply,
-        report: None,
-    })?;
+    put_reply(number, &reply, sink)?;
     let after = used_by(counts, &run.system, &step);
     // A difference modulo 2^64, as the meter counts.
     run.used = run.used.wrapping_add(after).wrapping_sub(before);
     raise(&mut run.peaks, &run.system, run.used);
     gate.after(worker, number, run.used);
     Ok(reply)
+}
+
+/// Puts the answer to a line that asks no report: its reply.
+#[inline(always)]
+fn put_reply<S: AnswerSink>(line: u32, reply: &Reply, sink: &mut S) -> Result<(), AllocError>
+    ensures { OnOk result
+        (PutsAll S.took (record { line = line; reply = reply.now; report = None } ∷ []) sink.old sink.new) }
+{
+    sink.put(Answer {
+        line,
+        reply: *reply,
+        report: None,
+    })
 }
 
 /// Tells the words in use of the loader whose tops a step may move, and 0 where it moves none, or

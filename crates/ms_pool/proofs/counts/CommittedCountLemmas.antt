@@ -61,8 +61,12 @@ is_range : (space : Space) (nodes : NodesState) (first count : ℕ) → AreSound
     → first ≡ by_space space 0 first_class_slot * node_granules nodes
     → count ≡ by_space space first_class_slot nodes.class_slots * node_granules nodes
     → IsRangeOf space nodes first count
-is_range NonClass nodes first count sound e f k member = lower first count (first_class_slot * node_granules nodes) k e f
+is_range NonClass nodes first count sound e f k member =
+    lower first count (first_class_slot * node_granules nodes) k (e ∙ none (node_granules nodes)) f
   where
+    none : (n : ℕ) → 0 * n ≡ 0
+    none n = omega arith
+
     lower : (first count end k : ℕ) → first ≡ 0 → count ≡ end → is_in_range first count k ≡ nat_lt k end
     lower first count end k e f = grind (arith, nat_tests)
 is_range Class nodes first count sound e f k member =
@@ -107,26 +111,26 @@ pub record IsCountedIn (space : Space) (nodes : NodesState) (count missing : ℕ
   pub fits : missing ≤ count
   pub rest : count - missing ≡ length (granules_in space nodes)
 
-pub counted_in : (space : Space) (nodes : NodesState) (first end granule missing : ℕ) → AreSound nodes
-    → first ≡ by_space space 0 first_class_slot
-    → end ≡ by_space space first_class_slot (first_class_slot + nodes.class_slots)
+pub counted_in : (space : Space) (nodes : NodesState) (first slots granule missing : ℕ) → AreSound nodes
+    → first ≡ by_space space 0 first_class_slot → slots ≡ by_space space first_class_slot nodes.class_slots
     → granule ≡ nodes.limits.granule
-    → missing ≡ count_missing nodes.granules (first * (1048576 / granule)) ((end - first) * (1048576 / granule))
-    → IsCountedIn space nodes ((end - first) * (1048576 / granule)) missing
-counted_in space nodes first end granule missing sound e f g told =
+    → missing ≡ count_missing nodes.granules (first * (1048576 / granule)) (slots * (1048576 / granule))
+    → IsCountedIn space nodes (slots * (1048576 / granule)) missing
+counted_in space nodes first slots granule missing sound e f g told =
     record { fits = omega (arith, told, counted); rest = omega (arith, told, counted) }
   where
-    slots : (space : Space) (class_slots first end : ℕ) → first ≡ by_space space 0 first_class_slot
-        → end ≡ by_space space first_class_slot (first_class_slot + class_slots)
-        → end - first ≡ by_space space first_class_slot class_slots
-    slots NonClass class_slots first end e f = omega (arith, e, f)
-    slots Class class_slots first end e f = omega (arith, e, f)
-
-    counted : count_missing nodes.granules (first * (1048576 / granule)) ((end - first) * (1048576 / granule))
-        + length (granules_in space nodes) ≡ (end - first) * (1048576 / granule)
-    counted = range_counted space nodes (first * (1048576 / granule)) ((end - first) * (1048576 / granule)) sound
-        (is_range space nodes (first * (1048576 / granule)) ((end - first) * (1048576 / granule)) sound
+    counted : count_missing nodes.granules (first * (1048576 / granule)) (slots * (1048576 / granule))
+        + length (granules_in space nodes) ≡ slots * (1048576 / granule)
+    counted = range_counted space nodes (first * (1048576 / granule)) (slots * (1048576 / granule)) sound
+        (is_range space nodes (first * (1048576 / granule)) (slots * (1048576 / granule)) sound
         (ap (λ (n : ℕ). n * (1048576 / granule)) e
-        ∙ ap (λ (g : ℕ). by_space space 0 first_class_slot * (1048576 / g)) g)
-        (ap (λ (n : ℕ). n * (1048576 / granule)) (slots space nodes.class_slots first end e f)
-        ∙ ap (λ (g : ℕ). by_space space first_class_slot nodes.class_slots * (1048576 / g)) g))
+        ∙ ap (λ (size : ℕ). by_space space 0 first_class_slot * (1048576 / size)) g)
+        (ap (λ (n : ℕ). n * (1048576 / granule)) f
+        ∙ ap (λ (size : ℕ). by_space space first_class_slot nodes.class_slots * (1048576 / size)) g))
+
+-- How many slots lie between a space's first and the one past its last.
+pub slots_between : (space : Space) (class_slots first end : ℕ) → first ≡ by_space space 0 first_class_slot
+    → end ≡ by_space space first_class_slot (first_class_slot + class_slots)
+    → end - first ≡ by_space space first_class_slot class_slots
+slots_between NonClass class_slots first end e f = omega (arith, e, f)
+slots_between Class class_slots first end e f = omega (arith, e, f)

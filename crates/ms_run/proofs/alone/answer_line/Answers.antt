@@ -1,7 +1,12 @@
 use Rattle.std.proofs.Common.{refl, ◌∙◌, sym}
-use Rattle.ms_run.proofs.AloneLemmas.{step_answered}
+use Rattle.ms_run.proofs.AloneLemmas.{end_answered, step_answered}
 use Rattle.ms_run.proofs.metered.StepUseLemmas.{counted_on, counted_use}
 use Rattle.ms_run.proofs.alone.answer_line.Goals as goal
+
+pub returns-in_default-clause-answered : goal.returns-in_default-clause-answered
+returns-in_default-clause-answered g c =
+    end_answered g.S.AnswerSink.took c.args.detail c.args.run.now c.args.line.now c.args.sink.now _ ?
+    c.in_ok-answer_between.ensures
 
 pub raise-requires : goal.raise-requires
 raise-requires g c = λ kept.
@@ -12,7 +17,7 @@ raise-requires g c = λ kept.
 pub returns-clause-answered : goal.returns-clause-answered
 returns-clause-answered g c =
     step_answered g.S.AnswerSink.took c.args.detail c.args.run.now _ c.args.line.now c.in-Step.step _ c.args.sink.now
-    c.put.new.self (sym c.command.ensures ∙ c.in-Step.is) c.in_ok-put.ensures c.number-number.ensures refl c.step-reply.ensures.step c.raise.ensures.peaks
+    c.put_reply.new.sink (sym c.command.ensures ∙ c.in-Step.is) c.in_ok-put_reply.ensures c.number-number.ensures refl c.step-reply.ensures.step c.raise.ensures.peaks
 
 pub returns-clause-counted : goal.returns-clause-counted
 returns-clause-counted g c =

@@ -2,8 +2,8 @@ use Rattle.std.proofs.Common.{ap, ◌∙◌}
 use Rattle.ms_loaders.specs.Amounts.{amounts_at}
 use Rattle.ms_loaders.proofs.loaders.Loaders.amounts_by.Goals as goal
 
-pub returns-in-Some : goal.returns-in-Some
-returns-in-Some c = c.amounts.ensures ∙ ap amounts_at c.in-Some.ensures
+pub returns-in_default : goal.returns-in_default
+returns-in_default c = ap amounts_at c.in_default.ensures
 
-pub returns-in-None : goal.returns-in-None
-returns-in-None c = ap amounts_at c.in-None.ensures
+pub returns : goal.returns
+returns c = c.amounts.ensures ∙ ap amounts_at c.in-Some.ensures
