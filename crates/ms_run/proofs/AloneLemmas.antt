@@ -134,7 +134,7 @@ line_answered took detail old new line reply sink whole told = (
   subst (λ (l : List Answer). PutsAll took l sink whole) told.2.1 told.1,
   (
     All-from_recursion (IsDetailed detail) (told.2.0 ∷ []) (told.2.2, tt),
-    λ course taken. (told.2.3 course taken).1,
+    λ course taken. let its = told.2.3 course taken in (its.1, its.2, its.3),
   ),
 )
 

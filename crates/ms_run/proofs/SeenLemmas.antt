@@ -4,7 +4,8 @@ use Rattle.std.proofs.Common.{append_assoc, append-nil}
 use Rattle.std.specs.Prelude.{IfSome}
 use Rattle.std.proofs.lemmas.List.{take_more}
 use Rattle.std.proofs.lemmas.List.Elements.{All-append, All-from_recursion, All-nil}
-use Rattle.ms_base.specs.State.{Limits, Machine, empty_machine}
+use Rattle.ms_base.specs.State.{Limits, Machine, empty_machine, limits_of}
+use Rattle.ms_base.specs.declared.settings.Settings.{Settings}
 use Rattle.ms_base.specs.declared.step.Reply.{Reply}
 use Rattle.ms_trace.specs.declared.trace.Line.{Line}
 use Rattle.ms_loaders.specs.declared.details.Detail.TheVariants.{Full}
@@ -15,9 +16,10 @@ use Rattle.ms_run.specs.Course.{Course, begun}
 use Rattle.ms_run.specs.Observing.{AreSeen, IsObserved, LastSightIsTheMachine, PutsAndSees, WatchesLines, last_sight}
 use Rattle.ms_run.specs.Replay.{Answers, AreOf, HasDetail, IsDetailed}
 use Rattle.ms_run.specs.Seeing.{Sight, SeesAll, sight_of}
-use Rattle.ms_run.specs.Sink.{IsOfLine, Puts, PutsAll}
+use Rattle.ms_run.specs.Sink.{AreToTrace, IsOfLine, Puts, PutsAll}
 use Rattle.ms_run.specs.declared.alone.Metered.{Metered}
 use Rattle.ms_run.proofs.AloneLemmas.{answers_append, puts_more, puts_none}
+use Rattle.ms_run.proofs.replays.ReplayLemmas.{alone_replays}
 
 -- Some lines are answered and seen, and then others.
 seen_append : (old mid new : Course) (lines more : List Line) (answers added : List Answer) (sights others : List Sight)
@@ -136,6 +138,29 @@ all_observed took saw limits lines old new totals sink sunk watch watched taken 
         full = full;
       },
     )
+
+-- So they are answered to a trace as by one worker.
+pub to_trace : {S O : Type 0} (took : S → S → List Answer → Type 0) (saw : O → O → List Sight → Type 0)
+    (settings : Settings) (lines lent : List Line) (totals : Totals) (sink sunk : S) (watch watched : O)
+    → settings.workers ≡ 1 → lent ≡ lines
+    → PutsAndSees took saw (λ answers sights. IsObserved (limits_of settings) lent answers sights totals) sink sunk watch
+    watched
+    → Puts took (AreToTrace settings Full lines) sink sunk
+to_trace took saw settings lines lent totals sink sunk watch watched one same told = (
+  told.0,
+  told.2,
+  record {
+    own = alone_replays settings lines lent told.0 one same (told.4.last, ran);
+    run = λ alone. (told.4.last, subst (λ (l : List Line). Answers first l told.0 told.4.last) same ran);
+    detailed = told.4.detailed;
+  },
+)
+  where
+    first : Course
+    first = begun (empty_machine (limits_of settings))
+
+    ran : Answers first lent told.0 told.4.last
+    ran = seen_answered first told.4.last lent told.0 told.1 told.4.seen
 
 -- The last sight is that of the last machine.
 last_is : (first last : Course) (lines : List Line) (answers : List Answer) (sight : Sight) (sights : List Sight)

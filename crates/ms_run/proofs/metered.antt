@@ -4,4 +4,4 @@ pub mod MeterMoveLemmas
 pub mod MeterSumLemmas
 pub mod StepUseLemmas
 pub mod UseLemmas
-mod AmountLemmas
+pub mod AmountLemmas

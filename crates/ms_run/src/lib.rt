@@ -17,6 +17,7 @@ mod dealing;
 mod fault;
 mod gate;
 mod gathering;
+pub mod laws;
 mod merging;
 mod metering;
 mod observer;

@@ -1,5 +1,5 @@
 //! Who sees, after each line, how the metaspace stands.
-ghost use Rattle.std.specs.Prelude.{◌≡◌, ◌++◌, ◌∷◌, [], List, OnOk};
+ghost use Rattle.std.specs.Prelude.{◌≡◌, ◌++◌, ◌∷◌, [], List, OnOk, ⊤};
 ghost use Rattle.ms_base.specs.Good.{IsGood};
 ghost use Rattle.ms_course.specs.Standing.{standing_of};
 ghost use Rattle.ms_run.specs.Seeing.{Sight, sight_of};
@@ -13,8 +13,9 @@ use std::alloc::AllocError;
 /// What sees each line of a replay once it is answered: a chart of the run, or what tells its
 /// numbers. This project's choice.
 pub trait Observer {
-    /// These lines were seen between a first state and a second, in their order.
-    ghost saw: { Self → Self → List Sight → Type 0 };
+    /// These lines were seen between a first state and a second, in their order. An observer of
+    /// which nothing is proved needs none of its own.
+    ghost saw: { Self → Self → List Sight → Type 0 } = { λ _ _ _. ⊤ };
 
     /// Sees a line more, after those that it saw before: the line, its reply, how the metaspace
     /// stands after it, and the system itself, which is good. An error means that a growth was

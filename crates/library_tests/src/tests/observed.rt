@@ -3,9 +3,11 @@
 //! kind standard takes a chunk of 512 words first, of 256 in the class space, which commits one granule of 8192
 //! words, and a node has 1048576 words.
 use super::same;
-use ms_base::{Kind, Policy, Refusal, Reply, Settings, Step};
+use ms_arena::RawArena;
+use ms_base::{Kind, Policy, Refusal, Reply, Settings, Space, Step};
 use ms_course::{Extent, Standing};
-use ms_loaders::{Amounts, Answer, System, Totals};
+use ms_loaders::{Amounts, Answer, Loader, Loaders, System, Totals};
+use ms_pool::Pool;
 use ms_run::{Observer, RunFault, replay_observed};
 use ms_trace::{Line, Trace, parse};
 use std::alloc::{AllocError, Global};
@@ -173,4 +175,55 @@ fn a_system_tells_the_words_of_each_space(rt: HostRuntime) {
     };
     same(&rt, &amounts, &[one, Amounts::NONE]);
     same(&rt, &[before, after], &[0, 8192]);
+}
+
+/// The words that are live in an arena before its first block and after it.
+fn live_in_one(alloc: Global, pool: &mut Pool) -> Option<[u64; 2]> {
+    let Ok(account) = pool.open(Space::NonClass) else {
+        return None;
+    };
+    let mut arena = RawArena::new(alloc, account, Kind::Standard);
+    let before = arena.live();
+    let block = arena.alloc(pool, 10);
+    let after = arena.live();
+    drop(arena);
+    block.ok()?;
+    Some([before, after])
+}
+
+/// What a loader with a class block has, by itself and among loaders, and the granules of the class
+/// space that are committed then.
+fn amounts_of_one(alloc: Global, pool: &mut Pool) -> Option<(Amounts, Amounts, u64)> {
+    let Ok((account, class_account)) = pool.open_both() else {
+        return None;
+    };
+    let mut loader = Loader::new(alloc, account, class_account, Kind::Standard);
+    let block = loader.calloc(pool, 1, 10);
+    let alone = loader.amounts();
+    let mut loaders = Loaders::new(alloc);
+    let inserted = loaders.insert(7, loader).is_ok();
+    let among = loaders.amounts_by(7);
+    drop(loaders);
+    block.ok()?;
+    if !inserted {
+        return None;
+    }
+    Some((alone, among, pool.class_committed()))
+}
+
+#[test]
+fn arenas_loaders_and_pools_count_what_is_live(rt: HostRuntime) {
+    let mut pool = Pool::new(rt.alloc(), SETTINGS).expect(&rt, "memory is ample");
+    let live = live_in_one(rt.alloc(), &mut pool);
+    let none = pool.class_committed();
+    let amounts = amounts_of_one(rt.alloc(), &mut pool);
+    drop(pool);
+    let class = Amounts {
+        used: 0,
+        live: 0,
+        class_used: 10,
+        class_live: 10,
+    };
+    same(&rt, &(live, none), &(Some([0, 10]), 0));
+    same(&rt, &amounts, &Some((class, class, 1)));
 }

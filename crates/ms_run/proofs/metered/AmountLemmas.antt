@@ -21,16 +21,23 @@ use Rattle.ms_base.proofs.events.SeenEntryLemmas.{same_entries}
 use Rattle.ms_base.proofs.granules.FrontSumLemmas.{sums_are_bounded}
 use Rattle.ms_base.proofs.machine.SumLemmas.{used_below}
 use Rattle.ms_base.proofs.own.OwnStepLemmas.{refused_leaves, served_others}
+use Rattle.ms_trace.specs.declared.trace.Line.{Line}
+use Rattle.ms_trace.specs.Steps.{step_of}
 use Rattle.ms_course.specs.Standing.{standing_of}
 use Rattle.ms_course.specs.declared.standing.Standing.{Standing}
 use Rattle.ms_pool.specs.LimitCounts.{limit_counts}
 use Rattle.ms_pool.specs.declared.pool.counts.LimitCounts.{LimitCounts}
 use Rattle.ms_loaders.specs.Amounts.{amounts_by, amounts_if, amounts_of, no_amounts}
 use Rattle.ms_loaders.specs.declared.amounts.Amounts.{Amounts}
+use Rattle.ms_loaders.specs.declared.details.Detail.TheVariants.{Full}
+use Rattle.ms_loaders.specs.declared.replies.Answer.{Answer}
+use Rattle.ms_run.specs.Counting.{HasTaken}
 use Rattle.ms_run.specs.Course.{Course}
 use Rattle.ms_run.specs.Observing.{amounts_in, moved_by}
-use Rattle.ms_run.specs.Replay.{Advances}
-use Rattle.ms_run.specs.Workers.{loader_if}
+use Rattle.ms_run.specs.Replay.{Advances, Answers}
+use Rattle.ms_run.specs.Workers.{loader_if, named_by}
+use Rattle.ms_run.specs.Sink.{IsOfLine, Puts}
+use Rattle.ms_run.specs.declared.alone.Metered.{Metered}
 use Rattle.ms_run.proofs.metered.UseLemmas.{amounts_apart, amounts_moved}
 
 -- A step leaves the loaders that it doesn't name.
@@ -136,6 +143,31 @@ moved_are old new at all before after next was good others are first last used l
           ap amount first,
           ap amount are,
         )
+
+-- So they do over a line that a run answers.
+pub line_moved : {S : Type 0} (took : S → S → List Answer → Type 0) (old new : Metered) (line : Line) (reply : Reply)
+    (sink sunk : S) (name : Option ℕ) (all before after next : Amounts)
+    → Puts took (IsOfLine Full old line reply new) sink sunk → (course : Course) × HasTaken course old
+    → IsGood old.system → IsGood new.system → name ≡ named_by line → all ≡ amounts_of old.system
+    → before ≡ amounts_in name old.system.loaders → after ≡ amounts_in name new.system.loaders
+    → next.used ≡ moved_by all.used before.used after.used → next.live ≡ moved_by all.live before.live after.live
+    → next.class_used ≡ moved_by all.class_used before.class_used after.class_used
+    → next.class_live ≡ moved_by all.class_live before.class_live after.class_live → next ≡ amounts_of new.system
+line_moved took old new line reply sink sunk name all before after next told taken was good is are first last used live
+    class_used class_live =
+    moved_are old.system new.system name all before after next was good others are first last used live class_used
+    class_live
+  where
+    its : (answer_is : told.2.0.reply ≡ reply) × (later : Course)
+        × Answers taken.0 (line ∷ []) (told.2.0 ∷ []) later × HasTaken later new
+    its = told.2.3 taken.0 taken.1
+
+    others : (other : ℕ) → name ≢ Some other → named new.system.loaders other ≡ named old.system.loaders other
+    others other differs =
+        ap (λ (m : Machine). named m.loaders other) its.3.state
+        ∙ ap (λ (course : Course). named course.state.loaders other) its.2.4.1
+        ∙ line_others (step_of line.command) taken.0 its.2.0 told.2.0.reply its.2.2 other (λ e. differs (is ∙ e))
+        ∙ sym (ap (λ (m : Machine). named m.loaders other) taken.1.state)
 
 -- How a machine stands, by its counts and the amounts of all loaders.
 abbrev pub standing_with : Amounts → ℕ → ℕ → ℕ → ℕ → ℕ → Standing

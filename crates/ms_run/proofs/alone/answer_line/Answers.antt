@@ -1,11 +1,13 @@
 use Rattle.std.proofs.Common.{refl, ◌∙◌, sym}
 use Rattle.ms_run.proofs.AloneLemmas.{end_answered, step_answered}
+use Rattle.ms_run.proofs.replays.ReplayLemmas.{none_asked}
 use Rattle.ms_run.proofs.metered.StepUseLemmas.{counted_on, counted_use}
 use Rattle.ms_run.proofs.alone.answer_line.Goals as goal
 
 pub returns-in_default-clause-answered : goal.returns-in_default-clause-answered
 returns-in_default-clause-answered g c =
-    end_answered g.S.AnswerSink.took c.args.detail c.args.run.now c.args.line.now c.args.sink.now _ ?
+    end_answered g.S.AnswerSink.took c.args.detail c.args.run.now c.args.line.now c.args.sink.now _
+    (none_asked c.args.line.now.command (λ step is. c.in_default.not-Step step (c.command.ensures ∙ is)))
     c.in_ok-answer_between.ensures
 
 pub raise-requires : goal.raise-requires

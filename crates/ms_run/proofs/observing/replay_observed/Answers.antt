@@ -1,0 +1,41 @@
+use Rattle.std.proofs.Common.{◌≡◌, refl, subst, sym, List}
+use Rattle.ms_base.specs.State.{Machine, empty_machine, limits_of}
+use Rattle.ms_trace.specs.declared.trace.Line.{Line}
+use Rattle.ms_loaders.specs.Amounts.{amounts_of, no_amounts}
+use Rattle.ms_run.specs.Course.{begun}
+use Rattle.ms_run.specs.Observing.{IsObserved, PutsAndSees}
+use Rattle.ms_run.proofs.SeenLemmas.{all_observed, to_trace}
+use Rattle.ms_run.proofs.observing.replay_observed.Goals as goal
+
+pub watch_lines-requires-clause-counted : goal.watch_lines-requires-clause-counted
+watch_lines-requires-clause-counted g c = record {
+  good = c.in_ok-run.ensures.good;
+  used = λ counts. c.in_ok-run.ensures.used;
+  kept = c.in_ok-run.ensures.kept;
+  counting = λ full. refl;
+}
+
+pub watch_lines-requires-clause-taken : goal.watch_lines-requires-clause-taken
+watch_lines-requires-clause-taken g c =
+    (begun (empty_machine (limits_of c.args.settings)), c.in_ok-run.ensures.taken)
+
+pub watch_lines-requires-clause-none : goal.watch_lines-requires-clause-none
+watch_lines-requires-clause-none g c =
+    subst (λ (m : Machine). amounts_of m ≡ no_amounts) (sym c.in_ok-run.ensures.taken.state) refl
+
+pub returns-clause-observed : goal.returns-clause-observed
+returns-clause-observed g c =
+    subst (λ (l : List Line). PutsAndSees g.S.AnswerSink.took g.O.Observer.saw
+    (λ answers sights. IsObserved (limits_of c.args.settings) l answers sights _) c.args.sink.now _ c.args.observer.now _)
+    c.as_slice.ensures
+    (all_observed g.S.AnswerSink.took g.O.Observer.saw (limits_of c.args.settings) c.as_slice.result.now _ _ _
+    c.args.sink.now _ c.args.observer.now _ c.in_ok-run.ensures.taken c.in_ok-watch_lines.ensures.watched
+    c.in_ok-totals_of.ensures.of c.in_ok-totals_of.ensures.detailed)
+
+pub returns-clause-answers : goal.returns-clause-answers
+returns-clause-answers g c = λ one.
+    to_trace g.S.AnswerSink.took g.O.Observer.saw c.args.settings c.args.trace.now.lines c.as_slice.result.now _
+    c.args.sink.now _ c.args.observer.now _ one c.as_slice.ensures
+    (all_observed g.S.AnswerSink.took g.O.Observer.saw (limits_of c.args.settings) c.as_slice.result.now _ _ _
+    c.args.sink.now _ c.args.observer.now _ c.in_ok-run.ensures.taken c.in_ok-watch_lines.ensures.watched
+    c.in_ok-totals_of.ensures.of c.in_ok-totals_of.ensures.detailed)
