@@ -1,6 +1,6 @@
 -- Lines that are answered and seen, one after the other. For `observing` and `laws`.
 use Rattle.std.proofs.Common.{◌≡◌, ◌<◌, ◌+◌, ◌∙◌, ℕ, List, [], ◌∷◌, ◌++◌, length, take, get_or, subst, refl, sym, ap, ap₂}
-use Rattle.std.proofs.Common.{append_assoc, append-nil}
+use Rattle.std.proofs.Common.{append_assoc, append-nil, suc}
 use Rattle.std.specs.Prelude.{IfSome}
 use Rattle.std.proofs.lemmas.List.{take_more}
 use Rattle.std.proofs.lemmas.List.Elements.{All-append, All-from_recursion, All-nil}
@@ -119,12 +119,12 @@ seen_answered old new (line ∷ lines) (answer ∷ answers) (sight ∷ sights) s
 
 -- All lines are seen from the machine on that has nothing, up to the totals of the last.
 pub all_observed : {S O : Type 0} (took : S → S → List Answer → Type 0) (saw : O → O → List Sight → Type 0)
-    (limits : Limits) (lines : List Line) (old new : Metered) (totals : Totals) (sink sunk : S) (watch watched : O)
-    → HasTaken (begun (empty_machine limits)) old
-    → PutsAndSees took saw (WatchesLines old lines new) sink sunk watch watched
+    (limits : Limits) (lines lent : List Line) (old new : Metered) (totals : Totals) (sink sunk : S) (watch watched : O)
+    → lent ≡ lines → HasTaken (begun (empty_machine limits)) old
+    → PutsAndSees took saw (WatchesLines old lent new) sink sunk watch watched
     → ((course : Course) → HasTaken course new → AreOf course totals) → HasDetail Full totals
     → PutsAndSees took saw (λ answers sights. IsObserved limits lines answers sights totals) sink sunk watch watched
-all_observed took saw limits lines old new totals sink sunk watch watched taken told are full =
+all_observed took saw limits lines lent old new totals sink sunk watch watched same taken told are full =
     let ran = told.4.1 (begun (empty_machine limits)) taken in (
       told.0,
       told.1,
@@ -132,7 +132,8 @@ all_observed took saw limits lines old new totals sink sunk watch watched taken 
       told.3,
       record {
         last = ran.0;
-        seen = ran.1;
+        seen =
+            subst (λ (l : List Line). AreSeen (begun (empty_machine limits)) l told.0 told.1 ran.0) same ran.1;
         detailed = told.4.0;
         totals_are = are ran.0 ran.2;
         full = full;
@@ -141,17 +142,17 @@ all_observed took saw limits lines old new totals sink sunk watch watched taken 
 
 -- So they are answered to a trace as by one worker.
 pub to_trace : {S O : Type 0} (took : S → S → List Answer → Type 0) (saw : O → O → List Sight → Type 0)
-    (settings : Settings) (lines lent : List Line) (totals : Totals) (sink sunk : S) (watch watched : O)
-    → settings.workers ≡ 1 → lent ≡ lines
-    → PutsAndSees took saw (λ answers sights. IsObserved (limits_of settings) lent answers sights totals) sink sunk watch
+    (settings : Settings) (lines : List Line) (totals : Totals) (sink sunk : S) (watch watched : O)
+    → settings.workers ≡ 1
+    → PutsAndSees took saw (λ answers sights. IsObserved (limits_of settings) lines answers sights totals) sink sunk watch
     watched
     → Puts took (AreToTrace settings Full lines) sink sunk
-to_trace took saw settings lines lent totals sink sunk watch watched one same told = (
+to_trace took saw settings lines totals sink sunk watch watched one told = (
   told.0,
   told.2,
   record {
-    own = alone_replays settings lines lent told.0 one same (told.4.last, ran);
-    run = λ alone. (told.4.last, subst (λ (l : List Line). Answers first l told.0 told.4.last) same ran);
+    own = alone_replays settings lines lines told.0 one refl (told.4.last, ran);
+    run = λ alone. (told.4.last, ran);
     detailed = told.4.detailed;
   },
 )
@@ -159,8 +160,8 @@ to_trace took saw settings lines lent totals sink sunk watch watched one same to
     first : Course
     first = begun (empty_machine (limits_of settings))
 
-    ran : Answers first lent told.0 told.4.last
-    ran = seen_answered first told.4.last lent told.0 told.1 told.4.seen
+    ran : Answers first lines told.0 told.4.last
+    ran = seen_answered first told.4.last lines told.0 told.1 told.4.seen
 
 -- The last sight is that of the last machine.
 last_is : (first last : Course) (lines : List Line) (answers : List Answer) (sight : Sight) (sights : List Sight)
@@ -179,7 +180,7 @@ each_once first last [] answers sights seen = ap length seen.1
 each_once first last (line ∷ lines) [] sights seen = absurd seen
 each_once first last (line ∷ lines) (answer ∷ answers) [] seen = absurd seen
 each_once first last (line ∷ lines) (answer ∷ answers) (sight ∷ sights) seen =
-    ap (λ (n : ℕ). n + 1) (each_once seen.0 last lines answers sights seen.3)
+    ap suc (each_once seen.0 last lines answers sights seen.3)
 
 pub last_sight_is : LastSightIsTheMachine
 last_sight_is first last [] answers sights seen = (ap length seen.1, rw (seen.1) tt)

@@ -113,10 +113,14 @@ pub moved_are : (old new : Machine) (at : Option ℕ) (all before after next : A
     → next.class_live ≡ moved_by all.class_live before.class_live after.class_live → next ≡ amounts_of new
 moved_are old new at all before after next was good others are first last used live class_used class_live =
     λ i. record {
-      used = by (λ (a : Amounts). a.used) refl small.used small_new.used used i;
-      live = by (λ (a : Amounts). a.live) refl small.live small_new.live live i;
-      class_used = by (λ (a : Amounts). a.class_used) refl small.class_used small_new.class_used class_used i;
-      class_live = by (λ (a : Amounts). a.class_live) refl small.class_live small_new.class_live class_live i;
+      used =
+          by (λ (a : Amounts). a.used) refl (ap (λ (a : Amounts). a.used) are) small.used small_new.used used i;
+      live =
+          by (λ (a : Amounts). a.live) refl (ap (λ (a : Amounts). a.live) are) small.live small_new.live live i;
+      class_used =
+          by (λ (a : Amounts). a.class_used) refl (ap (λ (a : Amounts). a.class_used) are) small.class_used small_new.class_used class_used i;
+      class_live =
+          by (λ (a : Amounts). a.class_live) refl (ap (λ (a : Amounts). a.class_live) are) small.class_live small_new.class_live class_live i;
     }
   where
     small : AreSmall all
@@ -125,24 +129,19 @@ moved_are old new at all before after next was good others are first last used l
     small_new : AreSmall (amounts_of new)
     small_new = are_small new good
 
-    by : (amount : Amounts → ℕ) → amount no_amounts ≡ 0 → amount all < 2 ^ 52 → sum_of amount new.loaders < 2 ^ 52
+    by : (amount : Amounts → ℕ) → amount no_amounts ≡ 0 → amount all ≡ sum_of amount old.loaders → amount all < 2 ^ 52
+        → sum_of amount new.loaders < 2 ^ 52
         → amount next ≡ moved_by (amount all) (amount before) (amount after)
         → amount next ≡ sum_of amount new.loaders
-    by amount none few now_few is =
+    by amount none sum_is few now_few is =
         is_moved (amount all) (amount before) (amount after) (sum_of amount new.loaders) (amount next)
         (ap (λ (a : Amounts). sum_of amount new.loaders + amount a) first
         ∙ sum_moves amount none old new at was good others
-        ∙ ap (λ (a : Amounts). amount a + amount (amounts_in at new.loaders)) (sym are)
-        ∙ ap (λ (a : Amounts). amount all + amount a) (sym last))
+        ∙ ap₂ (λ (n : ℕ) (a : Amounts). n + amount a) (sym sum_is) (sym last))
         few now_few part is
       where
         part : amount before ≤ amount all
-        part = omega (
-          arith,
-          part_of_all amount none at old.loaders,
-          ap amount first,
-          ap amount are,
-        )
+        part = omega (arith, part_of_all amount none at old.loaders, ap amount first, sum_is)
 
 -- So they do over a line that a run answers.
 pub line_moved : {S : Type 0} (took : S → S → List Answer → Type 0) (old new : Metered) (line : Line) (reply : Reply)

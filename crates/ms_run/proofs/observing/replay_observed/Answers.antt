@@ -1,9 +1,7 @@
-use Rattle.std.proofs.Common.{◌≡◌, refl, subst, sym, List}
+use Rattle.std.proofs.Common.{◌≡◌, refl, subst, sym}
 use Rattle.ms_base.specs.State.{Machine, empty_machine, limits_of}
-use Rattle.ms_trace.specs.declared.trace.Line.{Line}
 use Rattle.ms_loaders.specs.Amounts.{amounts_of, no_amounts}
 use Rattle.ms_run.specs.Course.{begun}
-use Rattle.ms_run.specs.Observing.{IsObserved, PutsAndSees}
 use Rattle.ms_run.proofs.SeenLemmas.{all_observed, to_trace}
 use Rattle.ms_run.proofs.observing.replay_observed.Goals as goal
 
@@ -25,17 +23,14 @@ watch_lines-requires-clause-none g c =
 
 pub returns-clause-observed : goal.returns-clause-observed
 returns-clause-observed g c =
-    subst (λ (l : List Line). PutsAndSees g.S.AnswerSink.took g.O.Observer.saw
-    (λ answers sights. IsObserved (limits_of c.args.settings) l answers sights _) c.args.sink.now _ c.args.observer.now _)
-    c.as_slice.ensures
-    (all_observed g.S.AnswerSink.took g.O.Observer.saw (limits_of c.args.settings) c.as_slice.result.now _ _ _
-    c.args.sink.now _ c.args.observer.now _ c.in_ok-run.ensures.taken c.in_ok-watch_lines.ensures.watched
-    c.in_ok-totals_of.ensures.of c.in_ok-totals_of.ensures.detailed)
+    all_observed g.S.AnswerSink.took g.O.Observer.saw (limits_of c.args.settings) c.args.trace.now.lines _ _ _ _
+    c.args.sink.now _ c.args.observer.now _ c.as_slice.ensures c.in_ok-run.ensures.taken
+    c.in_ok-watch_lines.ensures.watched c.in_ok-totals_of.ensures.of c.in_ok-totals_of.ensures.detailed
 
 pub returns-clause-answers : goal.returns-clause-answers
 returns-clause-answers g c = λ one.
-    to_trace g.S.AnswerSink.took g.O.Observer.saw c.args.settings c.args.trace.now.lines c.as_slice.result.now _
-    c.args.sink.now _ c.args.observer.now _ one c.as_slice.ensures
-    (all_observed g.S.AnswerSink.took g.O.Observer.saw (limits_of c.args.settings) c.as_slice.result.now _ _ _
-    c.args.sink.now _ c.args.observer.now _ c.in_ok-run.ensures.taken c.in_ok-watch_lines.ensures.watched
-    c.in_ok-totals_of.ensures.of c.in_ok-totals_of.ensures.detailed)
+    to_trace g.S.AnswerSink.took g.O.Observer.saw c.args.settings c.args.trace.now.lines _ c.args.sink.now _
+    c.args.observer.now _ one
+    (all_observed g.S.AnswerSink.took g.O.Observer.saw (limits_of c.args.settings) c.args.trace.now.lines _ _ _ _
+    c.args.sink.now _ c.args.observer.now _ c.as_slice.ensures c.in_ok-run.ensures.taken
+    c.in_ok-watch_lines.ensures.watched c.in_ok-totals_of.ensures.of c.in_ok-totals_of.ensures.detailed)

@@ -2,16 +2,16 @@ use Rattle.std.proofs.Common.{arith}
 use Rattle.ms_run.proofs.metered.AmountLemmas.{are_added, stands_so}
 use Rattle.ms_run.proofs.observing.standing.Goals as goal
 
-pub overflow_add-used : goal.overflow_add-used
-overflow_add-used c =
+pub overflow_add-result-2 : goal.overflow_add-result-2
+overflow_add-result-2 c =
     let added = are_added c.args.system.now c.args.amounts c.requires.good c.requires.amounts in omega (arith, added.0)
 
-pub overflow_add-live : goal.overflow_add-live
-overflow_add-live c =
+pub overflow_add-result-3 : goal.overflow_add-result-3
+overflow_add-result-3 c =
     let added = are_added c.args.system.now c.args.amounts c.requires.good c.requires.amounts in omega (arith, added.1)
 
 pub returns : goal.returns
 returns c =
-    stands_so c.args.system.now c.counts-counts.result c.args.amounts c.from-2.result c.from.result c.committed.result
-    c.class_committed.result c.loader_count.result c.counts-counts.ensures c.requires.amounts c.from-2.ensures
-    c.from.ensures c.committed.ensures c.class_committed.ensures c.loader_count.ensures
+    stands_so c.args.system.now c.counts-counts.result c.args.amounts c.from.result c.from-class_reserved.result c.committed.result
+    c.class_committed.result c.loader_count.result c.counts-counts.ensures c.requires.amounts c.from.ensures
+    c.from-class_reserved.ensures c.committed.ensures c.class_committed.ensures c.loader_count.ensures

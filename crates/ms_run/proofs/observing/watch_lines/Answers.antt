@@ -23,9 +23,9 @@ loop-line-preserved g c = record {
       c.watch_line.new.observer c.loop-line.invariant.watched c.loop-line-test.true
       (subst (λ (line : Line). PutsAndSees g.S.AnswerSink.took g.O.Observer.saw
       (WatchesLines c.loop-line.run (line ∷ []) c.watch_line.new.run) c.loop-line.sink c.watch_line.new.sink
-      c.loop-line.observer c.watch_line.new.observer) c.line-item.is c.in_ok-watch_line.ensures.watched);
-  counted = c.in_ok-watch_line.ensures.counted;
-  amounts = c.in_ok-watch_line.ensures.amounts;
+      c.loop-line.observer c.watch_line.new.observer) c.line-item.is c.in_ok-amounts.ensures.watched);
+  counted = c.in_ok-amounts.ensures.counted;
+  amounts = c.in_ok-amounts.ensures.amounts;
 }
 
 pub returns-clause-watched : goal.returns-clause-watched
