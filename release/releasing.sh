@@ -1,8 +1,13 @@
 # What ./metarun, ./check and the tests know of release/, to be read by bash's `source` with `here` set to the
-# repository's top, and `built_as` to the path of each file that was built here. Each released file is compressed by xz, and has a line in release/sums: its name, the sha256
-# of its bytes, the sum of the sources that it was proved from, and the toolchain's line.
+# repository's top, and `built_as` to the path of each file that was built here. Both programs lie in one tar file,
+# since they share much; that and the library for C are compressed by xz. Each released file has a line in
+# release/sums: its name, the sha256 of its bytes, the sum of the sources that it was proved from, and the
+# toolchain's line.
 releases=$here/release
 sums=$releases/sums
+
+# The packed file that each released file lies in.
+declare -A packed_in=([metarun]=programs.tar.xz [metalog]=programs.tar.xz [libms_c.a]=libms_c.a.xz)
 
 # The crate that each released file is built from.
 declare -A crate_of=([metarun]=metarun [metalog]=metalog [libms_c.a]=ms_c)
@@ -57,15 +62,29 @@ bytes_of() {
 # Prints column N of the line that release/sums has of a file: 2 its bytes, 3 its sources, 4 the toolchain.
 told() { awk -v name="$1" -v column="$2" '$1 == name { for (at = 1; at < column; at++) sub(/^[^ ]+ +/, ""); if (column < 4) print $1; else print }' "$sums"; }
 
-# Unpacks a released file to a path, by xz or by python3; 3 says that neither is there.
-unpack() {
+# Prints what an xz file holds, by xz or by python3; 3 says that neither is there.
+expand() {
   if command -v xz > /dev/null; then
-    xz -dc "$releases/$1.xz" > "$2" 2> /dev/null
+    xz -dc "$1" 2> /dev/null
   elif command -v python3 > /dev/null; then
-    python3 -c 'import lzma, shutil, sys; shutil.copyfileobj(lzma.open(sys.argv[1]), sys.stdout.buffer)' "$releases/$1.xz" > "$2" 2> /dev/null
+    python3 -c 'import lzma, shutil, sys; shutil.copyfileobj(lzma.open(sys.argv[1]), sys.stdout.buffer)' "$1" 2> /dev/null
   else
     return 3
   fi
+}
+
+# Unpacks a released file to a path; 2 says that the packed file doesn't have it, 3 that nothing here expands it.
+unpack() {
+  local packed=$releases/${packed_in[$1]} ended
+  case $packed in
+    *.tar.xz)
+      expand "$packed" | tar -xOf - "$1" > "$2" 2> /dev/null
+      ended=("${PIPESTATUS[@]}")
+      [ "${ended[0]}" -eq 0 ] || return "${ended[0]}"
+      [ "${ended[1]}" -eq 0 ] || return 2
+      ;;
+    *) expand "$packed" > "$2" ;;
+  esac
 }
 
 # Unpacks a released file to a path and prints what is true of it: `fits` says that it has the bytes that release/sums
@@ -73,15 +92,16 @@ unpack() {
 # from other sources, `damaged` that its bytes are others, `packed` that nothing here can unpack it. Expects sum_up.
 state_of() {
   local file=$1 to=$2
-  if [ ! -f "$releases/$file.xz" ] || [ ! -f "$sums" ] || [ -z "$(told "$file" 2)" ]; then
+  if [ ! -f "$releases/${packed_in[$file]}" ] || [ ! -f "$sums" ] || [ -z "$(told "$file" 2)" ]; then
     echo missing
   elif [ "$(told "$file" 3)" != "${sum[${crate_of[$file]}]}" ]; then
     echo older
   else
     unpack "$file" "$to"
     case $? in
-      3) echo packed ;;
       0) if [ "$(bytes_of "$to")" = "$(told "$file" 2)" ]; then echo fits; else echo damaged; fi ;;
+      2) echo missing ;;
+      3) echo packed ;;
       *) echo damaged ;;
     esac
   fi
@@ -91,22 +111,11 @@ state_of() {
 said_of() {
   case $2 in
     missing) echo "release/ has no $1" ;;
-    older) echo "release/$1.xz was proved from other sources than this tree's" ;;
-    damaged) echo "release/$1.xz is damaged: its bytes are not those that release/sums names" ;;
-    packed) echo "release/$1.xz can't be unpacked: neither xz nor python3 is on PATH" ;;
-    foreign) echo "release/$1.xz has other bytes than what was proved here" ;;
+    older) echo "$1 of release/ was proved from other sources than this tree's" ;;
+    damaged) echo "$1 of release/ is damaged: its bytes are not those that release/sums names" ;;
+    packed) echo "$1 of release/ can't be unpacked: neither xz nor python3 is on PATH" ;;
+    foreign) echo "$1 of release/ has other bytes than what was proved here" ;;
   esac
-}
-
-# Writes a built file into release/, with its line in release/sums. Expects sum_up.
-write_release() {
-  local file=$1 built=$2
-  mkdir -p "$releases" && touch "$sums" || return
-  xz -9e -c "$built" > "$releases/$file.xz" || return
-  {
-    grep -v "^$file " "$sums"
-    echo "$file $(bytes_of "$built") ${sum[${crate_of[$file]}]} $(rt version)"
-  } | LC_ALL=C sort > "$sums.new" && mv "$sums.new" "$sums"
 }
 
 # Sums up the sources of all that is released.
@@ -125,7 +134,7 @@ compare_release() {
     state=$(state_of "$file" "$unpacked")
     [ "$state" != fits ] || cmp -s "$unpacked" "${built_as[$file]}" || state=foreign
     if [ "$state" = fits ]; then
-      echo "ok: release/$file.xz is the file that was proved and built here, byte for byte"
+      echo "ok: $file of release/ is the file that was proved and built here, byte for byte"
       well=$((well + 1))
     else
       echo "FAILED: $(said_of "$file" "$state"): run ./check --release, and commit release/"
@@ -137,8 +146,16 @@ compare_release() {
   [ "$bad" -eq 0 ]
 }
 
-# Writes each released file anew.
+# Writes the release anew from what was built here, with a line in release/sums for each file. Expects sum_up.
 release_all() {
-  local file
-  for file in "${!built_as[@]}"; do write_release "$file" "${built_as[$file]}" || return; done
+  local file room
+  room=$(mktemp -d) || return
+  for file in "${!built_as[@]}"; do cp "${built_as[$file]}" "$room/$file" || return; done
+  mkdir -p "$releases" || return
+  tar -C "$room" --format=ustar --sort=name --mtime=@0 --owner=0 --group=0 --numeric-owner --mode=755 -cf - metalog metarun |
+    xz --x86 --lzma2=preset=9e,lc=4,pb=0 -c > "$releases/programs.tar.xz" || return
+  xz -9e -c "$room/libms_c.a" > "$releases/libms_c.a.xz" || return
+  for file in "${!built_as[@]}"; do
+    echo "$file $(bytes_of "$room/$file") ${sum[${crate_of[$file]}]} $(rt version)"
+  done | LC_ALL=C sort > "$sums" && rm -r "$room"
 }

@@ -1,7 +1,7 @@
 """Traces that are made to be slow: each must end within ten seconds on one processor, and within a gigabyte.
 
-Those that can be as hard at ten times the lines are tried there too, with ten times the bounds, so that neither time nor
-memory grows faster than the lines.
+Each is tried at ten times the lines too, with ten times the bounds, so that neither time nor memory grows faster than the
+lines.
 """
 import ctypes
 import random
@@ -178,44 +178,57 @@ def phases_of_one_line(bench, workers, scale):
     return figures
 
 
-def one_loader_of_many_chunks(bench):
-    """A hidden loader of 99,000 blocks, two a chunk, which all go at once."""
-    lines = ["new 1 hidden"] + [f"alloc 1 {name} 128" for name in range(99000)]
+def one_loader_of_many_chunks(bench, scale):
+    """A hidden loader asks for 99,000 blocks or ten times that, two a chunk, which all go at once; 524,288 fill all nodes."""
+    asked = scale * 99000
+    blocks = min(asked, 64 * 1048576 // 128)
+    lines = ["new 1 hidden"] + [f"alloc 1 {name} 128" for name in range(asked)]
     lines += ["report", "unload 1", "purge", "report"]
-    answers, figures = answered(bench, (), text_of(lines))
-    expect_all(answers, b"ok")
+    answers, figures = answered(bench, (), text_of(lines, scale), scale=scale)
+    expect_all(answers[:blocks + 1], b"ok")
+    expect_all(answers[blocks + 1:asked + 1], b"refused ReserveLimit")
+    expect_all(answers[asked + 1:], b"ok")
     first, last = reports_of(answers)
     expect_sums(first)
-    expect(first.loaders == [(1, "hidden", 49500, 99000 * 128, 99000 * 128, 99000 * 128)], first.loaders)
+    expect(first.loaders == [(1, "hidden", blocks // 2, blocks * 128, blocks * 128, blocks * 128)], first.loaders)
     expect(set(last.spaces[0].numbers.values()) == {0}, last)
     return figures
 
 
-def small_parts():
-    """Every second of 31,000 chunks of 128 words goes; then loaders come and ask for what fits between, or doesn't."""
+def small_parts(scale):
+    """Every second of 31,000 chunks of 128 words goes; then loaders come and ask for what fits between, or doesn't.
+
+    Whoever comes again with its name goes before that.
+    """
     lines = [line for name in range(31000) for line in (f"new {name} hidden", f"alloc {name} 1 128")]
     lines += [f"unload {name}" for name in range(0, 31000, 2)]
-    for name in range(40000, 40000 + (MOST_LINES - len(lines)) // 2 - 1):
-        lines += [f"new {name} hidden", f"alloc {name} 1 {129 if name % 2 else 128}"]
+    comers = range(40000, 65536)
+    for number in range(scale * MOST_LINES):
+        name = comers[number % len(comers)]
+        come = [f"unload {name}"] if number >= len(comers) else []
+        come += [f"new {name} hidden", f"alloc {name} 1 {129 if name % 2 else 128}"]
+        if len(lines) + len(come) >= scale * MOST_LINES:
+            break
+        lines += come
     return lines + ["report"]
 
 
-def a_pool_of_small_parts(bench):
+def a_pool_of_small_parts(bench, scale):
     """All that come are served."""
-    answers, figures = answered(bench, (), text_of(small_parts()))
+    answers, figures = answered(bench, (), text_of(small_parts(scale), scale), scale=scale)
     expect_all(answers, b"ok")
     expect_sums(reports_of(answers)[0])
     return figures
 
 
-def a_limit_among_small_parts(bench):
+def a_limit_among_small_parts(bench, scale):
     """485 granules hold the 31,000 chunks and 5,120 words more: 20 chunks of 256 words, and no other 129 words."""
-    lines = small_parts()
-    answers, figures = answered(bench, ["--max-granules", "485"], text_of(lines))
-    larger = [answer for answer, line in zip(answers, lines) if line.endswith(" 129")]
-    expect_all(larger[:20], b"ok")
-    expect_all(larger[20:], b"refused CommitLimit")
-    expect_all([answer for answer, line in zip(answers, lines) if not line.endswith(" 129")], b"ok")
+    lines = small_parts(scale)
+    answers, figures = answered(bench, ["--max-granules", "485"], text_of(lines, scale), scale=scale)
+    served = {f"alloc {name} 1 129" for name in range(40001, 40041, 2)}
+    fits = [line in served or not line.endswith(" 129") for line in lines]
+    expect_all([answer for answer, fit in zip(answers, fits) if fit], b"ok")
+    expect_all([answer for answer, fit in zip(answers, fits) if not fit], b"refused CommitLimit")
     expect_sums(reports_of(answers)[0])
     return figures
 
@@ -235,29 +248,32 @@ def the_largest_block_comes_and_goes(bench, scale):
     return figures
 
 
-def blocks_that_lie_far_apart(bench):
-    """2,000 loaders take turns at 29 blocks of 1,000 words, each far from the loader's others: no place costs kilobytes."""
-    loaders, rounds = 2000, 29
+def blocks_that_lie_far_apart(bench, scale):
+    """2,000 loaders take turns at 29 blocks of 1,000 words, each far from the loader's others: no place costs kilobytes.
+
+    At ten times the lines they are 250 blocks of 100 words, of which a chunk of 256 words has two.
+    """
+    loaders, rounds, words = 2000, *((29, 1000) if scale == 1 else (250, 100))
     lines = [f"new {name} hidden" for name in range(loaders)]
-    lines += [f"alloc {name} {number} 1000" for number in range(rounds) for name in range(loaders)]
+    lines += [f"alloc {name} {number} {words}" for number in range(rounds) for name in range(loaders)]
     lines.append("report")
-    answers, figures = answered(bench, (), text_of(lines), most_memory=128 * MEGABYTE)
+    answers, figures = answered(bench, (), text_of(lines, scale), most_memory=128 * MEGABYTE, scale=scale)
     expect_all(answers, b"ok")
     report, = reports_of(answers)
     expect_sums(report)
-    expect(report.spaces[0].numbers["live"] == 1000 * loaders * rounds, report.spaces[0])
+    expect(report.spaces[0].numbers["live"] == words * loaders * rounds, report.spaces[0])
     return figures
 
 
-def phases_of_two_lines(bench, workers, loaders, phases):
+def phases_of_two_lines(bench, workers, loaders, phases, scale):
     """Phases in each of which two workers have a line, while all other loaders stand by."""
     names = range(loaders)
     lines = [f"new {name} standard" for name in names] + [f"alloc {name} 1 2" for name in names] + ["sync"]
     begun = len(lines)
-    for number in range(phases):
+    for number in range(scale * phases):
         lines += [f"write {number % loaders} 1 0 {number}", f"read {(number + 1) % loaders} 1 0", "sync"]
     lines.append("report")
-    answers, figures = answered(bench, ["--workers", str(workers)], text_of(lines))
+    answers, figures = answered(bench, ["--workers", str(workers)], text_of(lines, scale), scale=scale)
     expect(len(answers) == len(lines), "not each line is answered")
     for number, answer in enumerate(answers[begun + 1:-1:3]):
         expect(answer.reply == b"value %d" % max(number + 1 - loaders, 0), "a word is read otherwise", number, answer)
@@ -266,8 +282,8 @@ def phases_of_two_lines(bench, workers, loaders, phases):
     return figures
 
 
-def scaled_tests(scale, more):
-    """The traces that can be as hard at more lines."""
+def traces_of(scale, more):
+    """Each trace, at so many times the lines."""
     yield Test(f"block names that hash to one place{more}", names_of_one_place, (scale,))
     for workers in (1, 2):
         yield Test(f"the deepest tree of free blocks, {workers} at work{more}", deepest_tree, (workers, scale))
@@ -278,21 +294,20 @@ def scaled_tests(scale, more):
         yield Test(f"all 65,536 loader names, {workers} at work{more}", all_loader_names, (workers, scale))
     for workers in (1, 2, 8):
         yield Test(f"45,000 phases of one line, {workers} at work{more}", phases_of_one_line, (workers, scale))
+    yield Test(f"one loader of 49,500 chunks{more}", one_loader_of_many_chunks, (scale,))
+    yield Test(f"a pool of small parts{more}", a_pool_of_small_parts, (scale,))
+    yield Test(f"a limit among small parts{more}", a_limit_among_small_parts, (scale,))
+    yield Test(f"blocks that lie far apart{more}", blocks_that_lie_far_apart, (scale,))
+    for loaders, phases, beside in (1000, 30000, ""), (16000, 22000, " beside 16,000 loaders"):
+        for workers in (1, 2, 8):
+            yield Test(f"{phases:,} phases of two lines{beside}, {workers} at work{more}", phases_of_two_lines,
+                       (workers, loaders, phases, scale))
 
 
 def tests():
-    yield from scaled_tests(1, "")
-    yield Test("one loader of 49,500 chunks", one_loader_of_many_chunks)
-    yield Test("a pool of small parts", a_pool_of_small_parts)
-    yield Test("a limit among small parts", a_limit_among_small_parts)
-    yield Test("blocks that lie far apart", blocks_that_lie_far_apart)
-    for workers in (1, 2, 8):
-        yield Test(f"30,000 phases of two lines, {workers} at work", phases_of_two_lines, (workers, 1000, 30000))
-    for workers in (1, 2, 8):
-        yield Test(f"22,000 phases of two lines beside 16,000 loaders, {workers} at work", phases_of_two_lines,
-                   (workers, 16000, 22000))
+    yield from traces_of(1, "")
 
 
 def long_tests():
     """Ten times the lines. Apart, and last: a run's memory can't be seen below this process's own, which such texts raise."""
-    yield from scaled_tests(TENFOLD, ", ten times the lines")
+    yield from traces_of(TENFOLD, ", ten times the lines")

@@ -2,10 +2,12 @@
 
 The tree of these tests has the scripts, a source for each released crate, and the built program as its release.
 """
+import io
 import os
 import resource
 import shutil
 import subprocess
+import tarfile
 import tempfile
 
 from claims import Skipped, Test, expect, first_difference
@@ -49,6 +51,21 @@ class Tree:
         with open(self.path(name), "rb") as file:
             return file.read()
 
+    def built(self):
+        """The bytes of the built program."""
+        with open(self.bench.program.path, "rb") as file:
+            return file.read()
+
+    def pack(self, **programs):
+        """Packs programs, whose names and bytes are given, and leaves release/sums as it is."""
+        packed = io.BytesIO()
+        with tarfile.open(fileobj=packed, mode="w:xz") as archive:
+            for name, data in programs.items():
+                member = tarfile.TarInfo(name)
+                member.size = len(data)
+                archive.addfile(member, io.BytesIO(data))
+        self.write("release/programs.tar.xz", packed.getvalue())
+
     def bash(self, command):
         """Runs a command over the functions of the release, with the built program under each name; no toolchain is asked but for its line."""
         program = self.bench.program.path
@@ -62,8 +79,8 @@ class Tree:
             return subprocess.run([self.path(name)], stdin=trace, capture_output=True, timeout=60,
                                   env={"PATH": tools(self.bench, *without)})
 
-    def expect_refused(self, text):
-        """Fails the test where the script and the comparison don't both say this of the release."""
+    def expect_refused(self, text, refused=1):
+        """Fails the test where the script and the comparison don't both say this of the release, in which so many files don't fit."""
         shutil.rmtree(self.path("crates/metarun/out"), ignore_errors=True)
         ended = self.run()
         expect(ended.returncode == 127 and ended.stdout == b"", ended)
@@ -71,7 +88,7 @@ class Tree:
         compared = self.bash("sum_released; compare_release")
         expect(compared.returncode == 1 and f"FAILED: {text}" in compared.stdout, text, compared.stdout)
         expect("run ./check --release, and commit release/" in compared.stdout, compared.stdout)
-        expect(compared.stdout.endswith("2 passed, 1 failed\n"), compared.stdout)
+        expect(compared.stdout.endswith(f"{3 - refused} passed, {refused} failed\n"), compared.stdout)
 
 
 def answer():
@@ -112,28 +129,26 @@ def is_unpacked_by_python(bench):
 
 
 def tells_a_flipped_byte(bench):
-    """One byte flipped, at each of ten places of the packed file, and in the file before it was packed."""
+    """One byte flipped, at each of ten places of what both programs are packed in, and in the program before that."""
     tree = Tree(bench)
-    whole = tree.read("release/metarun.xz")
+    whole = tree.read("release/programs.tar.xz")
     for at in [len(whole) * tenth // 10 for tenth in range(10)]:
-        tree.write("release/metarun.xz", whole[:at] + bytes([whole[at] ^ 1]) + whole[at + 1:])
-        tree.expect_refused("release/metarun.xz is damaged")
-    with open(bench.program.path, "rb") as file:
-        program = bytearray(file.read())
+        tree.write("release/programs.tar.xz", whole[:at] + bytes([whole[at] ^ 1]) + whole[at + 1:])
+        tree.expect_refused("metarun of release/ is damaged", refused=2)
+    program = bytearray(tree.built())
     program[len(program) // 2] ^= 1
-    packed = subprocess.run(["xz", "-c"], input=bytes(program), capture_output=True, check=True).stdout
-    tree.write("release/metarun.xz", packed)
-    tree.expect_refused("release/metarun.xz is damaged")
+    tree.pack(metarun=bytes(program), metalog=tree.built())
+    tree.expect_refused("metarun of release/ is damaged")
 
 
 def tells_another_tree(bench):
     """One byte of a source changed, and a source more."""
     tree = Tree(bench)
     tree.write("crates/metarun/src/main.rt", b"metaruN")
-    tree.expect_refused("release/metarun.xz was proved from other sources")
+    tree.expect_refused("metarun of release/ was proved from other sources")
     tree.write("crates/metarun/src/main.rt", b"metarun")
     tree.write("crates/metarun/specs/More.antt", b"")
-    tree.expect_refused("release/metarun.xz was proved from other sources")
+    tree.expect_refused("metarun of release/ was proved from other sources")
 
 
 def tells_a_missing_release(bench):
@@ -142,18 +157,21 @@ def tells_a_missing_release(bench):
     lines = tree.read("release/sums").splitlines(keepends=True)
     tree.write("release/sums", b"".join(line for line in lines if not line.startswith(b"metarun ")))
     tree.expect_refused("release/ has no metarun")
-    os.remove(tree.path("release/metarun.xz"))
+    tree.pack(metalog=tree.built())
     tree.expect_refused("release/ has no metarun")
     tree.write("release/sums", b"".join(lines))
     tree.expect_refused("release/ has no metarun")
+    os.remove(tree.path("release/programs.tar.xz"))
+    tree.expect_refused("release/ has no metarun", refused=2)
 
 
 def tells_a_foreign_program(bench):
     """A release whose sums fit each other and the sources, of a program that the proof doesn't give."""
     tree = Tree(bench)
     tree.write("other", b"another program")
-    made = tree.bash(f"sum_released; write_release metarun {tree.path('other')}; compare_release")
-    expect(made.returncode == 1 and "release/metarun.xz has other bytes than what was proved here" in made.stdout, made.stdout)
+    made = tree.bash(f"sum_released; built=${{built_as[metarun]}} built_as[metarun]={tree.path('other')}; release_all; "
+                     "built_as[metarun]=$built; compare_release")
+    expect(made.returncode == 1 and "metarun of release/ has other bytes than what was proved here" in made.stdout, made.stdout)
 
 
 def tests():

@@ -25,7 +25,7 @@ name_of IdsUsedUp = codes "IdsUsedUp"
 name_of (Unsettled opened gathered) = codes "Unsettled"
 name_of (NoRoom level) = codes "NoRoom"
 
--- `ok`, `at A`, `value V` or `refused NAME`; where a block starts is told only if addresses are
+-- `ok`, `at A`, `value V` or `refused NAME`; where a block starts is shown only if addresses are
 -- asked for.
 abbrev pub reply_text : Bool → Reply → List ℕ
 reply_text addresses Done = codes "ok"

@@ -37,7 +37,7 @@ AreClassed class (tree ∷ trees) = AreOf class (blocks_of tree) × AreClassed (
 abbrev pub TellsWhether : ℕ → List Block → Type 0
 TellsWhether bit blocks = (bit ≡ 0 → blocks ≡ []) × (bit ≡ 1 → blocks ≢ [])
 
--- The bit of each class tells whether its tree has blocks.
+-- The bit of each class is set where its tree has blocks.
 abbrev pub TellsOf : {A : Type 0} → ℕ → List (Tree A) → Type 0
 TellsOf some trees =
     (class : ℕ) (tree : _) → slice_get trees class ≡ Some tree → TellsWhether (bit_at some class) (blocks_of tree)

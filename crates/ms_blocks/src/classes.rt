@@ -6,7 +6,7 @@
 //!
 //! The blocks of a tree rank before those of the next, so what callers see is one list, and each
 //! tree is a low one. A best fit is in the tree of its size, or where none there is large enough in
-//! the next one that has a block; a bit for each tree tells whether it has one. After the lists by
+//! the next one that has a block; a bit for each tree is set where it has one. After the lists by
 //! size of HotSpot's binList.hpp; the sizes of the larger ones are this project's choice.
 ghost use Rattle.std.specs.Prelude.{◌≡◌, ◌≢◌, ◌<◌, ℕ, [], cond, IfOk, IfSome, IfNone, OnSome};
 ghost use Rattle.std.specs.Prelude.{IsTrue, IsFalse, Some, None, take};
@@ -110,7 +110,7 @@ fn next_class(some: u64, class: usize) -> Option<usize>
     Some(class + 1 + later.trailing_zeros() as usize)
 }
 
-/// Tells which trees have a block, once one that had some has none, or has some still.
+/// Returns which trees have a block, once one that had some has none, or has some still.
 fn told_again(some: u64, class: usize, is_empty: bool) -> u64
     requires within { class < 64 }
     requires one { bit_at some class ≡ 1 }

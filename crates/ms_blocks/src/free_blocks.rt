@@ -4,7 +4,7 @@
 //!     room for 5 more     count 3     total 18     none has more than 10
 //!
 //! Neither adding a block nor removing one takes memory. Kept true: the store has the blocks by
-//! rank, they lie apart, the count and the total are theirs, there is the room that is told, and no
+//! rank, they lie apart, the count and the total are theirs, there is the room of the view, and no
 //! block has more words than the bound: so where a larger one is asked for, the store isn't looked
 //! at, as in most allocations.
 ghost use Rattle.std.specs.Prelude.{◌≡◌, ◌+◌, ◌^◌, ◌<◌, ◌≤◌, max, IsFalse, [], length, OnOk, OnErr, IfErr, IsOk};
@@ -120,7 +120,7 @@ impl<A: Allocator> FreeBlocks<A> {
         Some(block)
     }
 
-    /// Tells how many words the free blocks have together, below 2 ^ 64. They lie apart, and each
+    /// Returns how many words the free blocks have together, below 2 ^ 64. They lie apart, and each
     /// has at least two words.
     pub fn total(&self) -> u64
         ensures sum { result ≡ words_in self.now.kept }
@@ -129,7 +129,7 @@ impl<A: Allocator> FreeBlocks<A> {
         self.total
     }
 
-    /// Tells how many blocks are kept. They lie apart, and each has at least two words.
+    /// Returns how many blocks are kept. They lie apart, and each has at least two words.
     pub fn len(&self) -> usize
         ensures count { result ≡ length self.now.kept }
         ensures apart { AreKept self.now.kept }
@@ -137,7 +137,7 @@ impl<A: Allocator> FreeBlocks<A> {
         self.count
     }
 
-    /// Tells how many more blocks can be added.
+    /// Returns how many more blocks can be added.
     pub fn room(&self) -> usize
         ensures { result ≡ self.now.room }
     {

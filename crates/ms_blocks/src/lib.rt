@@ -10,7 +10,7 @@
 //! Fewer words rank first, and of as many words the lower start. So the best fit is the first block
 //! that is large enough. A row is halved to find it. Of more blocks than 32, those of fewer than 32
 //! words are in a tree for each size and larger ones in trees for a range of sizes each, a bit
-//! tells which trees have any, and a path down one or two of them finds it. Kept true: no two
+//! says which trees have any, and a path down one or two of them finds it. Kept true: no two
 //! blocks meet, each has at least two words, and none ends past 2 ^ 64 - 1. Stands on `ms_base`.
 //! Only `FreeBlocks::reserve` takes memory, and nothing waits. Apart because an arena is proved
 //! over the list of its free blocks alone, whatever form the blocks have here. Best fit is this

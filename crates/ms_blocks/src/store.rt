@@ -27,7 +27,7 @@ const FEW: usize = 32;
 pub enum Store<A: Allocator> {
     /// In a row, 32 at most with those that may come yet.
     Few(Vec<Block, A>),
-    /// Any number, in the trees by class, of which a bit each tells whether it has any.
+    /// Any number, in the trees by class, each with a bit that is set where it has any.
     Many {
         trees: Vec<Tree<A>, A>,
         some: u64,

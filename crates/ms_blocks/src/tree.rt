@@ -38,7 +38,7 @@ pub struct Fork<A: Allocator> {
 }
 
 impl<A: Allocator> Tree<A> {
-    /// Tells whether a tree has no block.
+    /// Returns whether a tree has no block.
     pub fn is_empty(&self) -> bool
         ensures none { IsTrue result → blocks_of self.now ≡ [] }
         ensures some { IsFalse result → blocks_of self.now ≢ [] }
@@ -49,7 +49,7 @@ impl<A: Allocator> Tree<A> {
         }
     }
 
-    /// Tells whether there is no fork to the left of that on top.
+    /// Returns whether there is no fork to the left of that on top.
     #[inline(always)]
     fn has_no_left(&self) -> bool
         ensures { IsTrue result → left_of self.now ≡ [] }
@@ -99,7 +99,7 @@ pub fn insert<A: Allocator>(tree: &mut Tree<A>, spare: Box<Fork<A>, A>) -> bool
 }
 
 /// Takes the first block of a ranked tree that has so many words, with its fork: the fork on the
-/// way that fits, and has nothing to its left that does. Where one is taken, `lower` tells whether
+/// way that fits, and has nothing to its left that does. Where one is taken, `lower` says whether
 /// the tree is lower then.
 pub fn take_fit<A: Allocator>(
     tree: &mut Tree<A>,
@@ -172,7 +172,7 @@ fn join<A: Allocator>(before: Tree<A>, mut behind: Tree<A>) -> Tree<A>
     }
 }
 
-/// Takes the first fork of a tree; `lower` tells then whether the tree is lower.
+/// Takes the first fork of a tree; `lower` says then whether the tree is lower.
 fn take_first<A: Allocator>(tree: &mut Tree<A>, lower: &mut bool) -> Option<Box<Fork<A>, A>>
     ensures { TakesFirst (blocks_of tree.old) (option_map (λ fork. fork.value.block) result)
         (blocks_of tree.new) }
@@ -246,7 +246,7 @@ enum Side {
 }
 
 impl Side {
-    /// Tells the other side.
+    /// Returns the other side.
     #[inline(always)]
     fn other(self) -> Side {
         match self {
@@ -256,7 +256,7 @@ impl Side {
     }
 }
 
-/// Tells how high a side of a fork is, and the other one.
+/// Returns how high a side of a fork is, and the other one.
 #[inline(always)]
 fn heights<A: Allocator>(fork: &Fork<A>, side: Side) -> (u8, u8) {
     let (left, right) = (height_of(&fork.left), height_of(&fork.right));
@@ -266,7 +266,7 @@ fn heights<A: Allocator>(fork: &Fork<A>, side: Side) -> (u8, u8) {
     }
 }
 
-/// Levels a tree on top, whose sides are level, where one is higher by one than it was, and tells
+/// Levels a tree on top, whose sides are level, where one is higher by one than it was, and returns
 /// whether the tree is higher then: not where the other side had been the higher one, and not where
 /// it turns.
 #[inline(always)]
@@ -290,7 +290,7 @@ fn level_grown<A: Allocator>(tree: &mut Tree<A>, grew: bool, side: Side) -> bool
     false
 }
 
-/// Levels a tree on top, whose sides are level, where one is lower by one than it was, and tells
+/// Levels a tree on top, whose sides are level, where one is lower by one than it was, and returns
 /// whether the tree is lower then: not where both had been as high.
 #[inline(always)]
 fn level_shrunk<A: Allocator>(tree: &mut Tree<A>, shrank: bool, side: Side) -> bool
@@ -411,12 +411,12 @@ fn right_up<A: Allocator>(mut fork: Box<Fork<A>, A>) -> Box<Fork<A>, A>
     }
 }
 
-/// Tells whether the one tree is higher by two than the other.
+/// Returns whether the one tree is higher by two than the other.
 fn is_higher<A: Allocator>(one: &Tree<A>, other: &Tree<A>) -> bool {
     height_of(one) > height_of(other).wrapping_add(1)
 }
 
-/// Tells how high a tree is.
+/// Returns how high a tree is.
 fn height_of<A: Allocator>(tree: &Tree<A>) -> u8 {
     match tree {
         Tree::Empty => 0,
@@ -432,7 +432,7 @@ fn tell_height<A: Allocator>(fork: &mut Fork<A>)
     fork.height = sides.wrapping_add(1);
 }
 
-/// Tells whether the first block ranks before the second.
+/// Returns whether the first block ranks before the second.
 pub fn ranks_first(one: &Block, other: &Block) -> bool
     ensures { result ≡ ranks_before one.now other.now }
 {

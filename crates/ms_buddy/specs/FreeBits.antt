@@ -14,7 +14,7 @@ bit_of words number = bit_at (get_or words (number / 64) 0) (number % 64)
 abbrev pub AreFreeBits : List ℕ → List Span → Type 0
 AreFreeBits words free = (number : ℕ) → bit_of words number ≡ count_of_number number free
 
--- A second row of bits tells which words have a bit that is set.
+-- A second row of bits marks the words that have a bit that is set.
 abbrev pub IsFilled : List ℕ → List ℕ → Type 0
 IsFilled words filled = (row : ℕ) → bit_of filled row ≡ cond (get_or words row 0 == 0) 0 1
 

@@ -100,7 +100,7 @@ IsCarveRefusal part free OutOfMemory = IsTrue (fits_in part free) × IsFalse (li
 IsCarveRefusal part free _ = ⊥
 
 -- What lending a part answers, by the leaves that are free before: it is lent only where it lies in
--- one of them, and a refusal tells why.
+-- one of them, and a refusal says why.
 pub record CarveAnswers {A : Type 0} (part : Span) (free : List Span) (result : Result A Refusal) : Type 0 where
   pub room : OnOk result (IsTrue (fits_in part free))
   pub refusal : IfErr result (λ refusal. IsCarveRefusal part free refusal)

@@ -27,7 +27,7 @@ IsRow number end [] at free = at ≡ end
 IsRow number end (level ∷ levels) at free = (number ≤ level) × (size_of level ≤ end) × IsPlace level (end - size_of level)
     × AreWithin level (end - size_of level) free × IsRow (number + 1) (end - size_of level) levels at free
 
--- What a look at a part says of the free leaves from its start on: it is the first of them, or none
+-- What a visit to a part says of the free leaves from its start on: it is the first of them, or none
 -- starts in it, or all that meet it are smaller.
 abbrev pub IsSeen : ℕ → ℕ → List Span → Seen → Type 0
 IsSeen level start free Free = from_on start free ≡ span_at start level ∷ from_on (start + size_of level) free

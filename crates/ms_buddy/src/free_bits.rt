@@ -30,7 +30,7 @@ const WORDS: usize = 128;
 #[derive(Drop)]
 pub(crate) struct FreeBits {
     words: [u64; WORDS],
-    /// A bit for each word, set where the word has one, so that a look for one passes over the
+    /// A bit for each word, set where the word has one, so that a search for one passes over the
     /// others.
     filled: [u64; WORDS / BITS],
 }
@@ -68,7 +68,7 @@ impl FreeBits {
         None
     }
 
-    /// Finds the first word from one on that has a set bit, or tells how many words there are.
+    /// Finds the first word from one on that has a set bit, or returns how many words there are.
     fn next_filled(&self, from: usize) -> usize
         requires { from ≤ 128 }
         ensures from { from ≤ result }
@@ -107,7 +107,7 @@ impl FreeBits {
         self.put(number, false);
     }
 
-    /// Tells the level of the free leaf that holds the part of a level at an offset, where one
+    /// Returns the level of the free leaf that holds the part of a level at an offset, where one
     /// does.
     pub(crate) fn holder(&self, level: u8, at: u64) -> Option<u8>
         requires low { level ≤ 12 }
@@ -161,7 +161,7 @@ impl FreeBits {
         free
     }
 
-    /// Tells whether the bit of a number is set.
+    /// Returns whether the bit of a number is set.
     pub(crate) fn has(&self, number: usize) -> bool
         requires { number < 8192 }
         ensures { result ≡ (bit_of self.now.words number == 1) }
@@ -216,7 +216,7 @@ fn lowest_bit(word: u64, from: usize) -> Option<usize>
     Some(from + later.trailing_zeros() as usize)
 }
 
-/// Tells the number of the part of a level that starts there.
+/// Returns the number of the part of a level that starts there.
 pub(crate) fn number(level: u8, start: u64) -> usize
     requires low { level ≤ 12 }
     requires in_root { start < ROOT_WORDS }
@@ -226,7 +226,7 @@ pub(crate) fn number(level: u8, start: u64) -> usize
     ((ROOT_WORDS + start) >> (19 - level)) as usize
 }
 
-/// Tells the number of the other half of a part's parent.
+/// Returns the number of the other half of a part's parent.
 #[inline(always)]
 fn buddy_of(number: usize) -> usize
     requires { number < 8192 }
@@ -236,7 +236,7 @@ fn buddy_of(number: usize) -> usize
     number / 2 * 2 + (1 - number % 2)
 }
 
-/// Tells where the part of a level starts that holds an offset.
+/// Returns where the part of a level starts that holds an offset.
 pub(crate) fn start_of_holder(level: u8, at: u64) -> u64
     requires low { level ≤ 12 }
     requires in_root { at < ROOT_WORDS }
@@ -246,7 +246,7 @@ pub(crate) fn start_of_holder(level: u8, at: u64) -> u64
     at - at % words_of(level)
 }
 
-/// Tells the first number of the parts of a level that start at an offset or past it.
+/// Returns the first number of the parts of a level that start at an offset or past it.
 pub(crate) fn first_from(level: u8, from: u64) -> usize
     requires low { level ≤ 12 }
     requires in_root { from < ROOT_WORDS }
@@ -255,7 +255,7 @@ pub(crate) fn first_from(level: u8, from: u64) -> usize
     ((ROOT_WORDS + from + (words_of(level) - 1)) >> (19 - level)) as usize
 }
 
-/// Tells where the part of a level starts that has a number.
+/// Returns where the part of a level starts that has a number.
 pub(crate) fn start_of(level: u8, number: usize) -> u64
     requires low { level ≤ 12 }
     requires from { 2 ^ level ≤ number }

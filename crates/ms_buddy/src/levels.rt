@@ -7,7 +7,7 @@ ghost use Rattle.ms_buddy.specs.Leaves.{has_level};
 /// How many levels there are: 0 to 12.
 pub(crate) const LEVELS: usize = 13;
 
-/// Tells the levels of which some are counted, as bits.
+/// Returns the levels of which some are counted, as bits.
 pub(crate) fn levels_of(counts: &[u16; LEVELS]) -> u16
     ensures { (level : ℕ) → has_level result level
         ≡ (nat_lt level 13 && nat_lt 0 (get_or counts.now level 0)) }

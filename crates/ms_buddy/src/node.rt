@@ -30,7 +30,7 @@ pub(crate) enum Node<A: Allocator> {
     Split(Box<Node<A>, A>, Box<Node<A>, A>),
 }
 
-/// Tells the words of a half of a part of that level.
+/// Returns the words of a half of a part of that level.
 pub(crate) fn half_of(level: u8) -> u64
     requires { level < 12 }
     ensures size { result ≡ size_of (level + 1) }
@@ -41,7 +41,7 @@ pub(crate) fn half_of(level: u8) -> u64
 }
 
 impl<A: Allocator> Node<A> {
-    /// Tells whether the node is one free leaf.
+    /// Returns whether the node is one free leaf.
     pub(crate) fn is_free(&self) -> bool
         ensures { result ≡ is_free (shape_of self.now) }
     {

@@ -87,7 +87,7 @@ impl<A: Allocator> PartTable<A> {
         }
     }
 
-    /// Tells whether the root is one free leaf. A caller also learns here what is true of the lent
+    /// Returns whether the root is one free leaf. A caller also learns here what is true of the lent
     /// leaves of every tree. Takes no memory.
     pub fn is_whole(&self) -> bool
         ensures whole { IsTrue result ↔ (free_of self.now ≡ root ∷ []) }
@@ -125,7 +125,7 @@ impl<A: Allocator> PartTable<A> {
         FreeLeaves::of_parts(self)
     }
 
-    /// Tells the levels of the free leaves as bits, that of level 0 the lowest. Takes no memory.
+    /// Returns the levels of the free leaves as bits, that of level 0 the lowest. Takes no memory.
     /// This project's choice.
     pub fn free_levels(&self) -> u16
         ensures { (level : ℕ) → has_level result level ≡ list_any (is_of level) (free_of self.now) }
@@ -133,7 +133,7 @@ impl<A: Allocator> PartTable<A> {
         levels_of(&self.counts)
     }
 
-    /// Tells how many free leaves there are of a level, without a look at them. Takes no memory.
+    /// Returns how many free leaves there are of a level, without a walk over them. Takes no memory.
     /// This project's choice.
     pub fn free_count(&self, level: Level) -> u16
         ensures { result ≡ count_at_level level (free_of self.now) }
@@ -141,7 +141,7 @@ impl<A: Allocator> PartTable<A> {
         self.counts[level.number() as usize]
     }
 
-    /// Tells whether a lent leaf can become its parent, as `enlarge` asks: it is no root, the
+    /// Returns whether a lent leaf can become its parent, as `enlarge` asks: it is no root, the
     /// leader, and its buddy is one free leaf. Looks at one bit. Takes no memory. After HotSpot,
     /// rootChunkArea.cpp.
     pub fn can_enlarge(&self, span: Span) -> bool
@@ -201,7 +201,7 @@ impl<A: Allocator> PartTable<A> {
         }
     }
 
-    /// Tells the lent leaf of a level that starts there, where there is one.
+    /// Returns the lent leaf of a level that starts there, where there is one.
     fn lent_at(&self, level: u8, start: u64) -> Option<Leaf>
         requires in_root { start < ROOT_WORDS }
         requires whole { 128 * (start / 128) ≡ start }

@@ -3,7 +3,7 @@
 //! The parts that are still to be visited lie side by side, from where the walk is to the root's
 //! end: so a stack of their levels says which they are, the next one on top. A part that is split
 //! puts the level of its halves there twice. A part of level n has at most n parts below it on the
-//! stack, one for each upper half on the way, so room for 13 is enough. Each part is looked at once.
+//! stack, one for each upper half on the way, so room for 13 is enough. Each part is visited once.
 //! Takes no memory.
 ghost use Rattle.std.specs.Prelude.{◌≡◌};
 ghost use Rattle.std.specs.Iterator.{YieldsFirst};
@@ -18,7 +18,7 @@ use ms_base::Span;
 use std::alloc::Allocator;
 use std::marker::Model;
 
-/// What a look at a part finds: a free leaf, no free leaf, or a part that is split.
+/// What a visit to a part finds: a free leaf, no free leaf, or a part that is split.
 #[derive(Clone, Copy, Drop)]
 pub(crate) enum Seen {
     Free,

@@ -5,7 +5,7 @@ ghost use Rattle.ms_base.specs.Level.{size_of};
 
 use ms_base::{Level, ROOT_WORDS, Span};
 
-/// Tells the words of a part of a level.
+/// Returns the words of a part of a level.
 pub(crate) fn words_of(level: u8) -> u64
     requires { level ≤ 12 }
     ensures size { result ≡ size_of level }

@@ -75,7 +75,7 @@ impl Place {
         }
     }
 
-    /// Tells what is lent, if anything is.
+    /// Returns what is lent, if anything is.
     pub(crate) fn lending(self) -> Option<Lending>
         ensures { result ≡ self }
     {
@@ -136,7 +136,7 @@ impl<A: Allocator> Places<A> {
         Ok(())
     }
 
-    /// Tells what is lent from a place on.
+    /// Returns what is lent from a place on.
     pub(crate) fn get(&self, place: usize) -> Option<Lending>
         requires { place < 4096 }
         ensures { result ≡ lending_at self.now place }

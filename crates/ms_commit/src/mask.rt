@@ -47,7 +47,7 @@ impl<const WORDS: usize> Mask<WORDS> {
         Mask { words: [0; WORDS] }
     }
 
-    /// Tells whether a number is a member; none past the mask is.
+    /// Returns whether a number is a member; none past the mask is.
     pub fn contains(&self, number: usize) -> bool
         ensures { result ≡ is_among self.now number }
     {
@@ -63,7 +63,7 @@ impl<const WORDS: usize> Mask<WORDS> {
         count_bits(&self.words, first, first + count)
     }
 
-    /// Tells the lowest number that is no member.
+    /// Returns the lowest number that is no member.
     pub fn lowest_missing(&self) -> Option<usize>
         requires { 64 * WORDS < 2 ^ 64 }
         ensures lowest { IfSome result (λ number. number ≡ lowest_unreserved self.now) }
@@ -74,7 +74,7 @@ impl<const WORDS: usize> Mask<WORDS> {
         lowest_clear(&self.words)
     }
 
-    /// Tells the lowest member in a range.
+    /// Returns the lowest member in a range.
     pub fn lowest_within(&self, first: usize, count: usize) -> Option<usize>
         requires { first + count < 2 ^ 64 }
         ensures member { IfSome result (λ number. is_among self.now number ≡ true) }
@@ -122,7 +122,7 @@ impl<const WORDS: usize> Mask<WORDS> {
         set_bits(&mut self.words, first, first + count);
     }
 
-    /// Takes the numbers of a range out, and tells how many of them were members.
+    /// Takes the numbers of a range out, and returns how many of them were members.
     pub fn remove_range(&mut self, first: usize, count: usize) -> usize
         requires within { (k : ℕ) → first ≤ k → k < first + count → k < 64 * WORDS }
         requires fits { first + count < 2 ^ 64 }
@@ -171,7 +171,7 @@ fn set_bits(words: &mut [u64], first: usize, end: usize)
     }
 }
 
-/// Clears the bits of the numbers from `first` up to `end`, and tells how many of them were set;
+/// Clears the bits of the numbers from `first` up to `end`, and returns how many of them were set;
 /// those past the words are clear.
 fn clear_bits(words: &mut [u64], first: usize, end: usize) -> usize
     ensures count { result ≡ length (filter (is_set words.old) (range_with_len first (end - first))) }

@@ -175,7 +175,7 @@ impl Nodes {
         Ok(need)
     }
 
-    /// Tells how many granules of a range, given by its first and how many they are, aren't
+    /// Returns how many granules of a range, given by its first and how many they are, aren't
     /// committed; those of unreserved slots aren't.
     pub fn missing(&self, first: u64, count: u64) -> u64
         requires { first + count < 2 ^ 64 }
@@ -194,14 +194,14 @@ impl Nodes {
         self.committed -= present as u64;
     }
 
-    /// Tells whether a granule is committed; none of an unreserved slot is.
+    /// Returns whether a granule is committed; none of an unreserved slot is.
     pub fn is_committed(&self, granule: u64) -> bool
         ensures answer { result ≡ is_among self.now.granules granule }
     {
         self.granules.contains(granule as usize)
     }
 
-    /// Tells how many granules are committed, in both spaces.
+    /// Returns how many granules are committed, in both spaces.
     pub fn committed(&self) -> u64
         ensures count { result ≡ length self.now.granules }
         ensures sound { AreSound self.now }
@@ -209,21 +209,21 @@ impl Nodes {
         self.committed
     }
 
-    /// Tells the limit of committed granules.
+    /// Returns the limit of committed granules.
     pub fn granule_limit(&self) -> u64
         ensures { result ≡ self.now.limits.granules }
     {
         self.granule_limit
     }
 
-    /// Tells the words of a granule, 8192 or 2048.
+    /// Returns the words of a granule, 8192 or 2048.
     pub fn granule(&self) -> u64
         ensures { result ≡ self.now.limits.granule }
     {
         self.granule
     }
 
-    /// Tells whether a slot is reserved; of those from 64 on, the class space's are.
+    /// Returns whether a slot is reserved; of those from 64 on, the class space's are.
     pub fn is_reserved(&self, slot: u32) -> bool
         ensures { result ≡ is_reserved (all_slots self.now) slot }
     {
@@ -231,7 +231,7 @@ impl Nodes {
     }
 
     /// Finds the lowest reserved slot from a number on, 0 to 63, never a class slot; none where no
-    /// slot from there on is reserved. Takes no memory, and looks at the slots' bits alone.
+    /// slot from there on is reserved. Takes no memory, and reads the slots' bits alone.
     pub fn next_reserved(&self, from: u32) -> Option<u32>
         ensures reserved { IfSome result (λ slot. IsTrue (is_reserved (all_slots self.now) slot)) }
         ensures from { IfSome result (λ slot. from ≤ slot) }
@@ -247,7 +247,7 @@ impl Nodes {
         }
     }
 
-    /// Tells how many slots below 64 are reserved.
+    /// Returns how many slots below 64 are reserved.
     pub fn reserved(&self) -> u32
         ensures count { result ≡ length self.now.slots }
         ensures sound { AreSound self.now }
@@ -255,14 +255,14 @@ impl Nodes {
         self.reserved
     }
 
-    /// Tells the limit of reserved slots below 64, 1 to 64.
+    /// Returns the limit of reserved slots below 64, 1 to 64.
     pub fn node_limit(&self) -> u32
         ensures { result ≡ self.now.limits.nodes }
     {
         self.node_limit
     }
 
-    /// Tells how many slots the class space has, 0 to 16.
+    /// Returns how many slots the class space has, 0 to 16.
     pub fn class_slots(&self) -> u32
         ensures { result ≡ self.now.class_slots }
     {

@@ -41,7 +41,7 @@ pub(crate) fn cut_silent(text: &[u8]) -> Option<&[u8]>
     Some(&text[at + 1..])
 }
 
-/// Tells whether a text ends with a newline.
+/// Returns whether a text ends with a newline.
 pub(crate) fn is_ended(text: &[u8]) -> bool
     ensures { result ≡ is_ended text.now }
 {

@@ -3,7 +3,7 @@ use std::fmt::{self, Debug, Display, Formatter, Write};
 use thiserror::Error;
 
 /// What is wrong with a line, in the order of the checks. A field is checked whole before the next
-/// one, so the last three come as the fields do. This project's choice. It is told by its name.
+/// one, so the last three come as the fields do. This project's choice. It prints as its name.
 #[derive(Clone, Copy, Debug, PartialEq, Eq)]
 pub enum FaultKind {
     /// The line's number is greater than the limit, which is 100000 where nothing else is asked.

@@ -91,7 +91,7 @@ fn fault_of_long(field: &[u8]) -> FaultKind
     }
 }
 
-/// Tells whether each byte is a digit.
+/// Returns whether each byte is a digit.
 fn are_digits(field: &[u8]) -> bool
     ensures { result ≡ list_all is_ascii_digit field.now }
 {

@@ -2,7 +2,7 @@
 //!
 //!     alloc 37 500 ..     from place 6 up to a space: 37, and place 9
 //!
-//! The text ends with a newline, which is no digit, so digits are looked at without asking where
+//! The text ends with a newline, which is no digit, so digits are read without asking where
 //! the text ends. They are added up modulo 2^64, and what they are is tested once, where they end.
 //! Where nothing is answered, `fields` judges.
 ghost use Rattle.std.specs.Prelude.{◌≡◌, ◌≤◌, ◌<◌, ◌-◌, ◌++◌, ◌∷◌, ◌%◌, ◌^◌, ◌==◌, IfSome, IsTrue, decimal, drop, get_or, length, true, false};
@@ -38,7 +38,7 @@ pub(crate) fn number_at(end: u8, text: &[u8], from: usize, greatest: u64) -> Opt
     Some((value, at + 1))
 }
 
-/// Tells the digit at a place, and more than 9 where that byte is none.
+/// Returns the digit at a place, and more than 9 where that byte is none.
 #[inline(always)]
 fn digit_at(text: &[u8], at: usize) -> u64
     requires { at < length text.now }
@@ -49,7 +49,7 @@ fn digit_at(text: &[u8], at: usize) -> u64
     u64::from(text[at]).wrapping_sub(48)
 }
 
-/// Tells whether digits, which have that value modulo 2^64, are that number.
+/// Returns whether digits, which have that value modulo 2^64, are that number.
 #[inline(always)]
 fn is_number(digits: &[u8], value: u64) -> bool
     requires digits { all_ascii_digits digits.now ≡ true }
@@ -62,7 +62,7 @@ fn is_number(digits: &[u8], value: u64) -> bool
     digits[0] != b'0' || digits.len() == 1
 }
 
-/// Tells whether they are a number of twenty digits. Those that begin with a 1 lie below 2 * 10^19,
+/// Returns whether they are a number of twenty digits. Those that begin with a 1 lie below 2 * 10^19,
 /// so that their value falls below 10^19 where they are too many for 64 bits.
 #[cold]
 #[inline(never)]

@@ -57,7 +57,7 @@ fn bare_before<'a>(line: &[u8], command: Command, text: &'a [u8]) -> Option<(Com
     Some((command, &text[line.len()..]))
 }
 
-/// Tells whether a text begins with a word.
+/// Returns whether a text begins with a word.
 #[inline(always)]
 fn begins_with(text: &[u8], word: &[u8]) -> bool
     ensures cut { IsTrue result → text.now ≡ word.now ++ drop (length word.now) text.now }

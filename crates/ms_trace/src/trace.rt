@@ -66,14 +66,14 @@ impl Line {
         Line { number, asks, step }
     }
 
-    /// Tells the line's number.
+    /// Returns the line's number.
     pub fn number(&self) -> u32
         ensures { result ≡ self.now.number }
     {
         self.number
     }
 
-    /// Tells what the line asks.
+    /// Returns what the line asks.
     pub fn command(&self) -> Command
         ensures { result ≡ self.now.command }
     {
