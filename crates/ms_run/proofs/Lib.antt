@@ -16,6 +16,7 @@ mod machine
 mod WorkedLemmas
 mod PhaseLemmas
 mod AloneLemmas
+mod GateLemmas
 pub mod PeakLemmas
 mod DetailLemmas
 mod replays

@@ -13,3 +13,4 @@ pub mod Answering
 pub mod Moved
 pub mod Counting
 pub mod Sink
+pub mod Gating
