@@ -17,6 +17,7 @@ mod WorkedLemmas
 mod PhaseLemmas
 mod AloneLemmas
 mod SeenLemmas
+mod GateLemmas
 pub mod PeakLemmas
 mod DetailLemmas
 mod replays

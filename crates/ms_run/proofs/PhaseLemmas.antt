@@ -8,18 +8,19 @@ use Rattle.std.proofs.lemmas.List.Elements.{recursion_from_All, All-from_recursi
 use Rattle.ms_base.specs.declared.step.Step.{Step}
 use Rattle.ms_base.specs.Names.{AreNamed}
 use Rattle.ms_base.specs.Request.{loader_of}
-use Rattle.ms_base.specs.State.{LoaderState, Machine}
+use Rattle.ms_base.specs.State.{Machine}
 use Rattle.ms_base.specs.Good.{IsGood}
 use Rattle.ms_trace.specs.declared.trace.Line.{Line}
 use Rattle.ms_loaders.specs.declared.replies.Answer.{Answer}
 use Rattle.ms_loaders.specs.Loader.{LoaderView}
-use Rattle.ms_loaders.specs.System.{states_of, machine_of, AreTogether}
+use Rattle.ms_loaders.specs.System.{machine_of, AreTogether}
 use Rattle.std.proofs.lemmas.List.{length-map}
 use Rattle.ms_shared.specs.History.{Event, events_of, AreBelow}
 use Rattle.ms_shared.specs.SeatView.{LockState}
 use Rattle.ms_run.specs.Acts.{events_by}
 use Rattle.ms_run.specs.Joined.{IsMadeFrom, seat_of}
-use Rattle.ms_base.specs.Run.Own.{Said, own_said, own_of, own_in, OwnRun, ArePurged}
+use Rattle.ms_base.specs.Run.Own.{Said, ArePurged}
+use Rattle.ms_base.proofs.own.OwnRunLemmas.{workers_replies_own}
 use Rattle.ms_run.specs.Counting.{GoesOnBy, GoesOnTo}
 use Rattle.ms_run.specs.Course.{Course, on_to, passed}
 use Rattle.ms_run.specs.Peaks.{ArePeaksIfKept}
@@ -27,42 +28,35 @@ use Rattle.ms_run.specs.Replay.{AreSaid, IsOneRun, IsPhase, GoesOn, runs}
 use Rattle.ms_run.specs.declared.alone.Metered.{Metered}
 use Rattle.ms_run.proofs.OrderLemmas.{HasPart, AreWoven, ordered}
 use Rattle.ms_run.proofs.machine.WholeLemmas.{one_run}
-use Rattle.ms_run.proofs.TouchLemmas.{same_own}
 use Rattle.ms_shared.proofs.SeatGatherLemmas.{HasOwn}
 use Rattle.ms_run.specs.Shares.{AreAt, place_for, said_in, IsReady, AllWorked, Place, AreApart, AreDealt, AreMerged}
-use Rattle.ms_run.specs.Shares.{IsGathered, AreSteps}
+use Rattle.ms_run.specs.Shares.{AreSteps}
 use Rattle.std.specs.Prelude.{slice_index_or}
 use Rattle.ms_run.proofs.sharing.StandByLemmas.{same_merged, all_placed}
 use Rattle.ms_run.specs.Turn.{TurnState, place_in, place_of, worker_in, IsSameTurn}
 use Rattle.ms_run.proofs.replays.StepReplayLemmas.{AsksStep, steps_replay}
 use Rattle.ms_run.specs.declared.share.Task.{Task}
 use Rattle.ms_run.specs.declared.share.Share.{Share}
-use Rattle.ms_run.proofs.WorkedLemmas.{IsDoneIfPurge, at_place, loaders_at, own_of_merged, purged_all, same_count}
-use Rattle.ms_run.proofs.WorkedLemmas.{same_run, seat_at, share_at, still_apart, team_of, worked_from}
+use Rattle.ms_run.proofs.WorkedLemmas.{IsDoneIfPurge, at_place, loaders_at, purged_all, same_count}
+use Rattle.ms_run.proofs.WorkedLemmas.{seat_at, share_at, still_apart, team_of, worked_from}
 
 -- What a phase's parts say of it together.
 pub phase_of : (worker : Option ℕ → ℕ) (share : ℕ → ℕ) (place : Place) (shared : LockState) (shares others : List Share) (lines : List Line)
     (added : List Answer) (said : List Said)
     (loaders : List (ℕ × LoaderView)) (old new : Machine)
-    → old.loaders ≡ states_of loaders → AreDealt place shared shares lines loaders → AllWorked shares others
-    → AreSaid lines added said → AreMerged place others said → IsGathered place others new.loaders → IsGood new
+    → AreDealt place shared shares lines loaders → AllWorked shares others
+    → AreSaid lines added said → AreMerged place others said → IsGood old → IsGood new
     → old ≡ machine_of shared.first loaders → AreTogether shared.first loaders → IsMadeFrom shared.first others new
     → new.limits ≡ old.limits
     → AllByRecursion (λ (s : Said). place (loader_of s.0) ≡ share (worker (loader_of s.0))) said
     → IsPhase worker old lines added new
-phase_of worker share place shared shares others lines added said loaders old new old_is dealt all said_are merged
-    gathered good machine together made limits placed = record {
+phase_of worker share place shared shares others lines added said loaders old new dealt all said_are merged
+    was_good good machine together made limits placed = record {
       said = said;
       said_are = said_are;
-      own = own;
+      own = workers_replies_own worker old new ran.order said was_good ran.keeps ran.run;
       purges = purges;
-      one_run = subst (λ (m : Machine). IsOneRun worker m said new) (sym machine)
-          (subst (λ (m : Machine). IsOneRun worker (machine_of shared.first loaders) said m) (sym made.ends.machine)
-          (one_run place shared.first made.last before after loaders made.ends.loaders said woven.order worker share
-          together
-          (λ name. omega (arith, many, same_count shares others all, dealt.within name))
-          (λ at less. begins_at at (done_at at less)) (λ at less. ends_at at (done_at at less)) woven.runs woven.keeps
-          (subst (λ (m : Machine). AreNamed m.loaders) made.ends.machine good.names) placed));
+      one_run = ran;
       good = good;
       limits = limits;
     }
@@ -127,18 +121,15 @@ phase_of worker share place shared shares others lines added said loaders old ne
         (subst (λ (n : ℕ). AreBelow n made.history.log) (length-map others seat_of ∙ sym many) made.history.numbered)
         (λ at less. parted at (done_at at less))
 
-    own : (name : ℕ) → OwnRun (own_in old.loaders name) (own_said name said) (own_in new.loaders name)
-    own name =
-        let done = (there (Some name)).0 in
-        let found = (there (Some name)).1 in
-        let from = worked_from shares others (place (Some name)) done all found in
-        same_run _ _ _ _ _ _
-        (ap (λ (l : List (ℕ × LoaderState)). own_in l name) old_is
-        ∙ same_own loaders from.share.loaders name (sym (dealt.here _ from.share name from.is refl)))
-        (sym (own_of_merged place name said) ∙ ap (own_said name) (merged _ done found)
-        ∙ ap (λ (l : List Task). own_said name (said_in l done.replies.items)) from.worked.tasks)
-        (ap own_of (gathered _ done name found refl))
-        (from.worked.own name)
+    ran : IsOneRun worker old said new
+    ran =
+        subst (λ (m : Machine). IsOneRun worker m said new) (sym machine)
+        (subst (λ (m : Machine). IsOneRun worker (machine_of shared.first loaders) said m) (sym made.ends.machine)
+        (one_run place shared.first made.last before after loaders made.ends.loaders said woven.order worker share
+        together
+        (λ name. omega (arith, many, same_count shares others all, dealt.within name))
+        (λ at less. begins_at at (done_at at less)) (λ at less. ends_at at (done_at at less)) woven.runs woven.keeps
+        (subst (λ (m : Machine). AreNamed m.loaders) made.ends.machine good.names) placed))
 
     purges : ArePurged said
     purges =
@@ -205,19 +196,19 @@ same_worker old new same (Some name) = ap (place_of new)
 pub ended : (old_turn turn : TurnState) (shared : LockState) (shares others : List Share) (lines : List Line)
     (added : List Answer) (said : List Said) (loaders : List (ℕ × LoaderView)) (old new : Machine)
     → IsSameTurn old_turn turn
-    → old.loaders ≡ states_of loaders → AreDealt (place_for (place_in turn) lines) shared shares lines loaders
+    → AreDealt (place_for (place_in turn) lines) shared shares lines loaders
     → AllWorked shares others
     → AreSaid lines added said → AreMerged (place_in turn) others said
-    → ((where_to : Place) → AreApart where_to others → IsGathered where_to others new.loaders) → IsGood new
+    → IsGood old → IsGood new
     → old ≡ machine_of shared.first loaders → AreTogether shared.first loaders → IsMadeFrom shared.first others new
     → new.limits ≡ shared.first.limits → shared.first.limits ≡ old.limits
     → IsPhase (worker_in old_turn) old lines added new
-ended old_turn turn shared shares others lines added said loaders old new same_turn old_is dealt all said_are merged
-    gathered good machine together made limits same =
+ended old_turn turn shared shares others lines added said loaders old new same_turn dealt all said_are merged
+    was_good good machine together made limits same =
     let place : Place = place_for (place_in turn) lines in
-    phase_of (worker_in old_turn) (place_of turn) place shared shares others lines added said loaders old new old_is
+    phase_of (worker_in old_turn) (place_of turn) place shared shares others lines added said loaders old new
     dealt all said_are (same_merged (place_in turn) others lines added said said_are merged)
-    (gathered place (still_apart place shares others lines dealt.apart dealt.tasks all)) good machine together made
+    was_good good machine together made
     (limits ∙ same)
     (all_placed (place_in turn) (λ name. place_of turn (worker_in old_turn name))
     (same_worker old_turn turn same_turn) lines added said said_are)

@@ -54,11 +54,6 @@ pub own_missing : (loaders : List (ℕ × LoaderView)) (name : ℕ) → named lo
     → own_in (states_of loaders) name ≡ None
 own_missing loaders name none = ap own_of (named_states loaders name ∙ ap (option_map state_of) none)
 
-pub same_own : (loaders others : List (ℕ × LoaderView)) (name : ℕ) → named loaders name ≡ named others name
-    → own_in (states_of loaders) name ≡ own_in (states_of others) name
-same_own loaders others name same =
-    ap own_of (named_states loaders name ∙ ap (option_map state_of) same ∙ sym (named_states others name))
-
 pub own_changed : (loaders : List (ℕ × LoaderView)) (name : ℕ) (was is : LoaderView) → named loaders name ≡ Some was
     → own_in (states_of (with_changed loaders name is)) name ≡ Some (own_state is.state)
 own_changed loaders name was is found =

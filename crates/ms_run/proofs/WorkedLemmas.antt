@@ -1,7 +1,7 @@
 -- Shares that were worked: what of each is as it was, and what was said in each of a loader. For
 -- `run_phase`.
 use Rattle.std.proofs.Common.{◌≡◌, ◌≢◌, ◌<◌, ◌==◌, ℕ, zero, suc, Bool, true, false, cond, Some, None, Option, List, []}
-use Rattle.std.proofs.Common.{◌∷◌, map, length, refl, sym, ap, ◌∙◌, subst, arith, slice_get, get_or, option_map}
+use Rattle.std.proofs.Common.{◌∷◌, map, length, refl, sym, ap, ◌∙◌, subst, arith, slice_get, get_or, inl, inr}
 use Rattle.std.specs.List.{All, AllByRecursion, filter}
 use Rattle.std.proofs.lemmas.Bool.{eq-eqb, eqb-true, false_from_ne_true}
 use Rattle.std.proofs.lemmas.Option.{slice_get-get_or, slice_get_within, get_or_from_slice_get}
@@ -10,15 +10,13 @@ use Rattle.ms_base.specs.declared.step.Reply.{Reply}
 use Rattle.ms_base.specs.declared.step.Reply.TheVariants.{Ok as Done}
 use Rattle.ms_base.specs.Names.{named}
 use Rattle.ms_base.specs.Request.{loader_of, is_name}
-use Rattle.ms_base.specs.Run.Alone.{OwnLoader, OwnReplies}
 use Rattle.ms_trace.specs.declared.trace.Line.{Line}
 use Rattle.ms_loaders.specs.Loader.{LoaderView}
-use Rattle.ms_loaders.specs.System.{states_of}
 use Rattle.ms_shared.specs.SeatView.{LockState, SeatState}
 use Rattle.ms_run.specs.Joined.{seat_of}
-use Rattle.ms_base.specs.Run.Own.{Said, own_said, own_of, own_in, OwnRun}
-use Rattle.ms_run.proofs.TouchLemmas.{named_states, own_missing}
-use Rattle.ms_loaders.proofs.steps.UnloadLemmas.{state_of}
+use Rattle.ms_base.specs.Run.Own.{Said, own_said}
+use Rattle.ms_base.proofs.own.OwnRunLemmas.{names_or_not}
+use Rattle.ms_run.specs.Acts.{Act, Works, said_of}
 use Rattle.std.specs.Prelude.{slice_index_or}
 use Rattle.ms_run.specs.declared.share.Task.{Task}
 use Rattle.ms_run.specs.declared.share.Share.{Share}
@@ -85,32 +83,6 @@ all_answered place shares others lines tasks all = λ at done found.
       from.worked.replies ∙ from.share.tasks.ok.0 ∙ ap length (sym from.worked.tasks) ∙ sym done.tasks.ok.0,
     )
 
--- A test after one that lets all through that it lets through.
-after_wider : {X : Type 0} (test wider : X → Bool) → ((x : X) → test x ≡ true → wider x ≡ true) → (xs : List X)
-    → filter test (filter wider xs) ≡ filter test xs
-after_wider test wider lets [] = refl
-after_wider {X} test wider lets (x ∷ xs) =
-    elim (wider x) as (λ b. wider x ≡ b → filter test (cond b (x ∷ filter wider xs) (filter wider xs))
-    ≡ filter test (x ∷ xs)) [
-      | true ↦ λ passes. ap (λ (l : List X). cond (test x) (x ∷ l) l) (after_wider test wider lets xs)
-      | false ↦ λ stops. let none : test x ≡ false = false_from_ne_true (test x) (λ e. let yes = lets x e in cc) in
-          rw none (after_wider test wider lets xs)
-    ] refl
-
--- A step that names a loader goes to the loader's share.
-goes_there : (place : Place) (name : ℕ) (wanted : Option ℕ) → is_name name wanted ≡ true
-    → (place wanted == place (Some name)) ≡ true
-goes_there place name None e = absurd (cc)
-goes_there place name (Some other) e = let same = eqb-true other name e in
-    eq-eqb _ _ (ap (λ (n : ℕ). place (Some n)) same)
-
--- Of what a loader's share said it is said what all said of it.
-pub own_of_merged : (place : Place) (name : ℕ) (said : List Said)
-    → own_said name (filter (λ (s : Said). place (loader_of s.0) == place (Some name)) said) ≡ own_said name said
-own_of_merged place name said =
-    after_wider (λ (s : Said). is_name name (loader_of s.0)) (λ (s : Said). place (loader_of s.0) == place (Some name))
-    (λ s e. goes_there place name (loader_of s.0) e) said
-
 -- In another share nothing is said of it.
 other_name : (place : Place) (at name : ℕ) → place (Some name) ≢ at → (wanted : Option ℕ) → (place wanted == at) ≡ true
     → is_name name wanted ≡ false
@@ -137,25 +109,17 @@ nothing_said place at name away (task ∷ tasks) replies =
       | false ↦ λ past. nothing_said place at name away tasks replies
     ] refl
 
--- A run without steps changes nothing.
-no_run : (before after : Option OwnLoader) (said : List Said) → said ≡ [] → OwnRun before said after → after ≡ before
-no_run before after said none run =
-    with_flags run.0
-    (subst (λ (l : List Said). OwnReplies before (map (λ (s : Said). s.0) l) run.0 (map (λ (s : Said). s.1) l)
-    after) none run.1)
-  where
-    with_flags : (flags : List Bool) → OwnReplies before [] flags [] after → after ≡ before
-    with_flags [] told = told
-    with_flags (flag ∷ flags) told = absurd told
-
--- A loader of which nothing is known isn't there.
-named_none : (entries : List (ℕ × LoaderView)) (name : ℕ) → own_in (states_of entries) name ≡ None
-    → named entries name ≡ None
-named_none entries name none = back (named entries name) (sym (ap own_of (named_states entries name)) ∙ none)
-  where
-    back : (found : Option LoaderView) → own_of (option_map state_of found) ≡ None → found ≡ None
-    back None e = refl
-    back (Some loader) e = absurd (cc)
+-- Acts of which none names a loader leave it.
+works_others : (name : ℕ) (old : List (ℕ × LoaderView)) (acts : List Act) (new : List (ℕ × LoaderView))
+    → Works old acts new → own_said name (said_of acts) ≡ [] → named new name ≡ named old name
+works_others name old [] new works none = ap (λ (l : List (ℕ × LoaderView)). named l name) works
+works_others name old (act ∷ acts) new (mid, one, works) none = elim (names_or_not name (loader_of act.0.0)) [
+  | inl its ↦ absurd (cc)
+  | inr other ↦
+      works_others name mid acts new works
+      (sym (ap (λ (b : Bool). cond b (act.0 ∷ own_said name (said_of acts)) (own_said name (said_of acts))) other.1) ∙ none)
+      ∙ one.loaders.others name other.0
+]
 
 -- A loader isn't begun in a share that its lines don't go to.
 pub still_apart : (place : Place) (shares others : List Share) (lines : List Line) → AreApart place shares
@@ -163,17 +127,12 @@ pub still_apart : (place : Place) (shares others : List Share) (lines : List Lin
     → AllWorked shares others → AreApart place others
 still_apart place shares others lines apart tasks all = λ at done name found away.
     let from = worked_from shares others at done all found in
+    let acted = from.worked.acted in
     let nothing =
     subst (λ (l : List Task). own_said name (said_in l done.replies.items) ≡ []) (sym (tasks at from.share from.is))
     (nothing_said place at name away (tasks_of lines) done.replies.items) in
-    let stays = no_run _ _ _ nothing (from.worked.own name) in
-    named_none done.loaders name (stays ∙ own_missing from.share.loaders name (apart at from.share name from.is away))
-
--- The same run, of the same told in other words.
-pub same_run : (before began after ended : Option OwnLoader) (said told : List Said) → before ≡ began → said ≡ told
-    → after ≡ ended
-    → OwnRun began told ended → OwnRun before said after
-same_run before began after ended said told begins says ends run = rw (begins, says, ends) run
+    works_others name from.share.loaders acted.acts done.loaders acted.works (ap (own_said name) acted.said_are ∙ nothing)
+    ∙ apart at from.share name from.is away
 
 -- There is a share at a place within.
 pub share_at : (shares : List Share) (at : ℕ) → at < length shares → (share : Share) × (slice_get shares at ≡ Some share)

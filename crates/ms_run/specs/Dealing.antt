@@ -1,6 +1,6 @@
 -- Loaders handed on from seat to seat, and the shares that come of it.
 use Rattle.std.specs.Prelude.{◌≡◌, ◌≢◌, ℕ, suc, ◌+◌, ◌<◌, ◌≤◌, ◌==◌, ◌⊎◌, true, false, List, [], ◌∷◌, length, map}
-use Rattle.std.specs.Prelude.{replicate, Some, None, Vec, slice_get, slice_index_or, ◌++◌}
+use Rattle.std.specs.Prelude.{replicate, Some, None, Vec, vec_len, vec_capacity, slice_get, slice_index_or, ◌++◌}
 use Rattle.std.specs.List.{All, count_by, filter}
 use Rattle.std.specs.declared.alloc.Global.{Global}
 use Rattle.ms_base.specs.Committed.{is_among}
@@ -11,7 +11,7 @@ use Rattle.ms_loaders.specs.Loader.{LoaderView}
 use Rattle.ms_loaders.specs.System.{owners_of}
 use Rattle.ms_shared.specs.declared.lock_rule.SeatView.{SeatView}
 use Rattle.ms_shared.specs.SeatView.{SeatState, LockState}
-use Rattle.ms_shared.specs.MeterRule.{MeterState}
+use Rattle.ms_shared.specs.MeterRule.{MeterSeatState, MeterState}
 use Rattle.ms_run.specs.Manned.{IsManned}
 use Rattle.ms_run.specs.Metering.{meter_of, unmoved}
 use Rattle.ms_run.specs.Shares.{Place, IsReady, tasks_at}
@@ -96,6 +96,15 @@ abbrev pub AreSharesFrom : Place → LockState → List Line → Loaded → ℕ 
 AreSharesFrom place shared lines loaders at [] = Unit {0}
 AreSharesFrom place shared lines loaders at (share ∷ shares) =
     IsShareAt place shared lines loaders at share × AreSharesFrom place shared lines loaders (suc at) shares
+
+-- A share newly made for a worker: it has these tasks and this seat of the meter, room for all
+-- replies, and none yet.
+pub record IsNewShare (worker : ℕ) (tasks : List Task) (meter : MeterSeatState) (share : Share) : Type 0 where
+  pub worker_is : share.worker ≡ worker
+  pub tasks_are : share.tasks.items ≡ tasks
+  pub meter_is : share.meter ≡ meter
+  pub room : vec_len share.tasks ≤ vec_capacity share.replies
+  pub none : share.replies.items ≡ []
 
 -- There are so many shares; where all places are of them, each has what is its own.
 pub record AreDealtTo (place : Place) (shared : LockState) (count : ℕ) (lines : List Line) (loaders : Loaded)

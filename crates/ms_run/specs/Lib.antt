@@ -15,3 +15,4 @@ pub mod Counting
 pub mod Sink
 pub mod Seeing
 pub mod Observing
+pub mod Gating

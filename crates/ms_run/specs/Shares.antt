@@ -15,10 +15,11 @@ use Rattle.ms_loaders.specs.System.{states_of}
 use Rattle.ms_loaders.specs.Used.{used_in}
 use Rattle.ms_shared.specs.SeatView.{LockState}
 use Rattle.ms_shared.specs.MeterRule.{MeterState}
-use Rattle.ms_base.specs.Run.Own.{Said, own_said, own_in, OwnRun, ArePurged}
+use Rattle.ms_base.specs.Run.Own.{Said, ArePurged}
 use Rattle.ms_run.specs.Acts.{HasActed}
 use Rattle.ms_run.specs.Manned.{IsManned}
 use Rattle.ms_run.specs.Moved.{IsMoved}
+use Rattle.ms_run.specs.Turn.{TurnState, shares_in, worker_in}
 use Rattle.ms_run.specs.declared.share.Task.{Task}
 use Rattle.ms_run.specs.declared.share.Share.{Share}
 
@@ -49,16 +50,13 @@ pub record StandOver (shared : LockState) (count : ℕ) (shares : List Share) : 
   pub manned : All IsMannedShare shares
   pub all : shared.seats ≡ count
 
--- A share is worked: each task has its reply, each loader's replies are its own, the seat made the
--- tasks' events and no other, and the meter's seat moved as the words in use did.
+-- A share is worked: each task has its reply, by acts of which each is its own loader's, the seat
+-- made the tasks' events and no other, and the meter's seat moved as the words in use did.
 pub record IsWorked (share done : Share) : Type 0 where
   pub id : done.seat.id ≡ share.seat.id
   pub manned : IsMannedShare done
   pub tasks : done.tasks.items ≡ share.tasks.items
   pub replies : vec_len done.replies ≡ vec_len share.tasks
-  pub own : (name : ℕ)
-      → OwnRun (own_in (states_of share.loaders) name) (own_said name (said_in share.tasks.items done.replies.items))
-      (own_in (states_of done.loaders) name)
   pub purges : ArePurged (said_in share.tasks.items done.replies.items)
   pub acted : HasActed share.seat done.seat share.loaders (said_in share.tasks.items done.replies.items) done.loaders
   pub moved : IsMoved share.meter (used_in share.loaders) done.meter (used_in done.loaders)
@@ -131,6 +129,11 @@ abbrev pub AreWorkedByTurn : (Option ℕ → ℕ) → List Share → Type 0
 AreWorkedByTurn worker shares =
     (at : ℕ) (share : Share) → slice_get shares at ≡ Some share
     → All (λ (task : Task). share.worker ≡ worker (loader_of task.step)) share.tasks.items
+
+-- There is a share for each worker whose turn it is, and it has only that worker's tasks.
+pub record AreOfTurn (turn : TurnState) (shares : List Share) : Type 0 where
+  pub count : length shares ≡ shares_in turn
+  pub workers : AreWorkedByTurn (worker_in turn) shares
 
 -- Each share's seat has the number of its place.
 abbrev pub AreNumbered : List Share → Type 0

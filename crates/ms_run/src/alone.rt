@@ -12,10 +12,12 @@ ghost use Rattle.ms_run.specs.Course.{begun};
 ghost use Rattle.ms_run.specs.Replay.{AreKept};
 ghost use Rattle.ms_run.specs.Metering.{used_words_of};
 ghost use Rattle.ms_run.specs.Counting.{HasTaken, IsCounted, used_around};
+ghost use Rattle.ms_run.specs.Gating.{AreGated, IsGatedBy};
 ghost use Rattle.ms_run.specs.Sink.{AreOfLines, AreOfRun, IsOfLine, Puts, PutsAll};
+ghost use Rattle.ms_trace.specs.Steps.{step_of};
 
 use crate::between::answer_between;
-use crate::gate::Gate;
+use crate::gate::{Gate, Manner};
 use crate::peaks::{begin, raise};
 use ms_base::{Reply, Settings, Step};
 use ms_loaders::{Answer, AnswerSink, Detail, Peaks, Replies, System};
@@ -36,17 +38,18 @@ pub struct Metered {
 /// Answers the lines in their order, from a system without loaders on, that goes with them.
 pub fn answer_alone<G: Gate, S: AnswerSink>(
     alloc: Global,
-    gate: &G,
+    manner: &Manner<'_, G>,
     settings: Settings,
-    detail: Detail,
     lines: &[Line],
     sink: &mut S,
 ) -> Result<(), AllocError>
-    ensures { OnOk result (Puts S.took (AreOfRun (limits_of settings) detail lines.now) sink.old sink.new) }
+    ensures answers { OnOk result (Puts S.took
+        (AreOfRun (limits_of settings) manner.now.detail lines.now) sink.old sink.new) }
+    ensures gated { OnOk result (AreGated (G.told manner.now.gate.now) (λ name. 0) lines.now) }
 {
-    let mut run = begin_run(alloc, settings, detail)?;
-    let counts = gate.looks() | run.peaks.is_some();
-    answer_lines(alloc, gate, 0, counts, detail, lines, &mut run, sink)
+    let mut run = begin_run(alloc, settings, manner.detail)?;
+    let counts = manner.gate.looks() | run.peaks.is_some();
+    answer_lines(alloc, manner, 0, counts, lines, &mut run, sink)
 }
 
 /// Begins a run: a system without loaders, and peaks where reports shall be full.
@@ -70,21 +73,21 @@ pub fn begin_run(alloc: Global, settings: Settings, detail: Detail) -> Result<Me
 /// peaks are kept from line to line.
 pub fn answer_lines<G: Gate, S: AnswerSink>(
     alloc: Global,
-    gate: &G,
+    manner: &Manner<'_, G>,
     worker: usize,
     counts: bool,
-    detail: Detail,
     lines: &[Line],
     run: &mut Metered,
     sink: &mut S,
 ) -> Result<(), AllocError>
-    requires { IsCounted counts detail run.old }
+    requires { IsCounted counts manner.now.detail run.old }
     ensures answers { OnOk result
-        (Puts S.took (AreOfLines detail run.old lines.now run.new) sink.old sink.new) }
-    ensures counted { OnOk result (IsCounted counts detail run.new) }
+        (Puts S.took (AreOfLines manner.now.detail run.old lines.now run.new) sink.old sink.new) }
+    ensures counted { OnOk result (IsCounted counts manner.now.detail run.new) }
+    ensures gated { OnOk result (AreGated (G.told manner.now.gate.now) (λ name. worker) lines.now) }
 {
     for line in lines {
-        answer_line(alloc, gate, worker, counts, detail, line, run, sink)?;
+        answer_line(alloc, manner, worker, counts, line, run, sink)?;
     }
     Ok(())
 }
@@ -92,25 +95,26 @@ pub fn answer_lines<G: Gate, S: AnswerSink>(
 /// Answers a line: one that asks a step between the gate's two calls. Returns the reply.
 pub fn answer_line<G: Gate, S: AnswerSink>(
     alloc: Global,
-    gate: &G,
+    manner: &Manner<'_, G>,
     worker: usize,
     counts: bool,
-    detail: Detail,
     line: &Line,
     run: &mut Metered,
     sink: &mut S,
 ) -> Result<Reply, AllocError>
-    requires { IsCounted counts detail run.old }
+    requires { IsCounted counts manner.now.detail run.old }
     ensures answered { IfOk result (λ reply.
-        Puts S.took (IsOfLine detail run.old line.now reply run.new) sink.old sink.new) }
-    ensures counted { OnOk result (IsCounted counts detail run.new) }
+        Puts S.took (IsOfLine manner.now.detail run.old line.now reply run.new) sink.old sink.new) }
+    ensures counted { OnOk result (IsCounted counts manner.now.detail run.new) }
+    ensures gated { OnOk result (IsGatedBy (G.told manner.now.gate.now) (λ name. worker)
+        line.now (step_of line.now.command)) }
 {
     let Command::Step(step) = line.command() else {
-        answer_between(alloc, run, None, detail, line, sink)?;
+        answer_between(alloc, run, None, manner.detail, line, sink)?;
         return Ok(Reply::Ok);
     };
     let number = line.number();
-    gate.before(worker, number);
+    manner.gate.before(worker, number);
     let before = used_by(counts, &run.system, &step);
     let reply = run.system.step(step);
     put_reply(number, &reply, sink)?;
@@ -118,7 +122,7 @@ pub fn answer_line<G: Gate, S: AnswerSink>(
     // A difference modulo 2^64, as the meter counts.
     run.used = run.used.wrapping_add(after).wrapping_sub(before);
     raise(&mut run.peaks, &run.system, run.used);
-    gate.after(worker, number, run.used);
+    manner.gate.after(worker, number, run.used);
     Ok(reply)
 }
 

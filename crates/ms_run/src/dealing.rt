@@ -9,25 +9,24 @@
 //! that stands by stays there. Each share has a seat of the phase's meter, with nothing counted
 //! yet. Takes memory for seats, lists of tasks and of replies, and places of loaders; nothing
 //! waits.
-ghost use Rattle.std.specs.Prelude.{◌≡◌, ◌+◌, ◌++◌, ◌∷◌, [], ◌≤◌, map, IfOk, OnOk, vec_len};
-ghost use Rattle.std.specs.Prelude.{vec_capacity, ◌<◌};
-ghost use Rattle.std.specs.Prelude.{◌≢◌, ℕ, IsTrue, Some, slice_get, slice_index_or};
+ghost use Rattle.std.specs.Prelude.{◌≡◌, ◌+◌, ◌∷◌, [], ◌≤◌, map, IfOk, OnOk, vec_len};
+ghost use Rattle.std.specs.Prelude.{◌<◌};
+ghost use Rattle.std.specs.Prelude.{◌≢◌, ℕ, IsTrue, Some, slice_get};
 ghost use Rattle.std.specs.Option.{is_some};
 ghost use Rattle.ms_base.specs.declared.kind.Space.TheVariants.{NonClass, Class};
 ghost use Rattle.ms_base.specs.Names.{named};
-ghost use Rattle.ms_base.specs.Request.{loader_of};
-ghost use Rattle.ms_run.specs.Turn.{HaveOwnShares, shares_in, place_in, worker_in};
+ghost use Rattle.ms_run.specs.Turn.{HaveOwnShares, shares_in, place_in};
 ghost use Rattle.ms_loaders.specs.Loader.{account_in};
 ghost use Rattle.ms_loaders.specs.System.{AreTogether};
 ghost use Rattle.ms_loaders.specs.Used.{used_in};
 ghost use Rattle.ms_shared.specs.SeatView.{ServesBy, new_seats, opened_by, with_account};
 ghost use Rattle.ms_shared.specs.SeatView.{without_account};
 ghost use Rattle.ms_run.specs.Metering.{used_over, meter_of};
-ghost use Rattle.ms_run.specs.Shares.{AreDealt, AreSteps, tasks_of, names_in, name_with, place_for};
+ghost use Rattle.ms_run.specs.Shares.{AreDealt, AreSteps, tasks_of, names_in, place_for};
 ghost use Rattle.ms_run.specs.Dealing.{AreCrews, AreListed, AreEmpty, AreAdded, IsHanded};
 ghost use Rattle.ms_run.specs.Dealing.{AreHanded, AreSeats};
-ghost use Rattle.ms_run.specs.Dealing.{AreDealtTo, AreWorkersFrom, HaveMeters, IsSameSeat};
-ghost use Rattle.ms_run.specs.Shares.{AreWorkedByTurn};
+ghost use Rattle.ms_run.specs.Dealing.{AreDealtTo, AreWorkersFrom, HaveMeters, IsNewShare, IsSameSeat};
+ghost use Rattle.ms_run.specs.Shares.{AreOfTurn};
 
 use crate::gathering::put_loader;
 use crate::share::{Share, Task};
@@ -58,10 +57,9 @@ pub fn deal(
     requires together { AreTogether pool loaders }
     requires steps { AreSteps lines.now }
     requires shared { HaveOwnShares turn.now lines.now }
-    ensures workers { IfOk result (λ made. AreWorkedByTurn (worker_in turn.now) made.1.items) }
+    ensures workers { IfOk result (λ made. AreOfTurn turn.now made.1.items) }
     ensures dealt { IfOk result (λ made. AreDealt (place_for (place_in turn.now) lines.now)
         made.0 made.1.items lines.now loaders) }
-    ensures count { IfOk result (λ made. vec_len made.1 ≡ shares_in turn.now) }
     ensures first { IfOk result (λ made. made.0.first ≡ pool) }
     ensures meters { IfOk result (λ made. HaveMeters made.2 (vec_len made.1) made.1.items) }
     ensures used { IfOk result (λ made. used_over made.1.items ≡ used_in loaders) }
@@ -144,11 +142,12 @@ fn deal_to(
         let at = shares.len() + 1;
         let tasks = take_list(alloc, &mut lists, at);
         let meter = meters.remove(0);
-        let share = share_beside(alloc, turn, shared, at, &mut first, seat, tasks, meter)?;
+        let worker = turn.worker(at);
+        let share = share_beside(alloc, worker, shared, &mut first, seat, tasks, meter)?;
         shares.push_reserved(share);
     }
     let tasks = take_list(alloc, &mut lists, 0);
-    let share = make_share(alloc, turn, 0, tasks, first, first_meter)?;
+    let share = make_share(alloc, turn.worker(0), tasks, first, first_meter)?;
     put_first(shares, share)
 }
 
@@ -165,20 +164,19 @@ fn put_first(mut shares: Vec<Share>, share: Share) -> Result<Vec<Share>, AllocEr
     }
 }
 
-/// Makes the share of a seat that serves nothing: the first crew hands on all loaders that the
-/// tasks name.
+/// Makes the share of a worker with a seat that serves nothing: the first crew hands on all loaders
+/// that the tasks name.
 fn share_beside(
     alloc: Global,
-    turn: &Turn,
+    worker: usize,
     shared: &SharedPool,
-    at: usize,
     first: &mut Crew,
     seat: PoolSeat,
     tasks: Vec<Task>,
     meter: MeterSeat,
 ) -> Result<Share, AllocError>
     requires { AreCrews shared.now first.old.seat first.old.loaders seat [] }
-    ensures worker { IfOk result (λ share. share.worker ≡ slice_index_or turn.now.active at 0) }
+    ensures made { IfOk result (IsNewShare worker tasks.items meter) }
     ensures crews { IfOk result (λ share.
         AreCrews shared.now first.new.seat first.new.loaders share.seat share.loaders) }
     ensures handed { IfOk result (λ share.
@@ -187,37 +185,27 @@ fn share_beside(
     ensures seat { IfOk result (λ share. IsSameSeat seat share.seat) }
     ensures used { IfOk result (λ share.
         used_in first.new.loaders + used_in share.loaders ≡ used_in first.old.loaders) }
-    ensures meter { IfOk result (λ share. share.meter ≡ meter) }
-    ensures tasks { IfOk result (λ share. share.tasks.items ≡ tasks.items) }
-    ensures room { IfOk result (λ share. vec_len share.tasks ≤ vec_capacity share.replies) }
-    ensures none { IfOk result (λ share. share.replies.items ≡ []) }
 {
     let loaders = Loaders::new(alloc);
     let mut crew = Crew { seat, loaders };
     hand_all(shared, tasks.as_slice(), first, &mut crew)?;
-    make_share(alloc, turn, at, tasks, crew, meter)
+    make_share(alloc, worker, tasks, crew, meter)
 }
 
-/// Makes the share of a place, with room for its replies.
+/// Makes the share of a worker, with room for its replies.
 fn make_share(
     alloc: Global,
-    turn: &Turn,
-    at: usize,
+    worker: usize,
     tasks: Vec<Task>,
     crew: Crew,
     meter: MeterSeat,
 ) -> Result<Share, AllocError>
-    ensures worker { IfOk result (λ share. share.worker ≡ slice_index_or turn.now.active at 0) }
+    ensures made { IfOk result (IsNewShare worker tasks.items meter) }
     ensures seat { IfOk result (λ share. share.seat ≡ crew.seat) }
-    ensures meter { IfOk result (λ share. share.meter ≡ meter) }
     ensures loaders { IfOk result (λ share. share.loaders ≡ crew.loaders) }
-    ensures tasks { IfOk result (λ share. share.tasks.items ≡ tasks.items) }
-    ensures room { IfOk result (λ share. vec_len share.tasks ≤ vec_capacity share.replies) }
-    ensures none { IfOk result (λ share. share.replies.items ≡ []) }
 {
     let replies = Vec::with_capacity(alloc, tasks.len())?;
     let Crew { seat, loaders } = crew;
-    let worker = turn.worker(at);
     Ok(Share {
         worker,
         seat,

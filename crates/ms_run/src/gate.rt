@@ -1,15 +1,25 @@
 //! What is called round each line of a replay.
+ghost use Rattle.std.specs.Prelude.{⊤};
+ghost use Rattle.ms_run.specs.Gating.{GateCall, Before, After};
+
+use ms_loaders::Detail;
 
 /// What is called round each line that asks a step, by the worker that works it. A test can hold
 /// workers there. This project's choice.
 pub trait Gate {
+    /// The gate was called so. A gate for which nothing is said of its calls needs none of its own.
+    ghost told: { Self → GateCall → Type 0 } = { λ gate call. ⊤ };
+
     /// Is called before a line: by which worker, from 0 on, and the line's number, from 1 on.
-    fn before(&self, worker: usize, line: u32);
+    fn before(&self, worker: usize, line: u32)
+        ensures { told self.now (Before worker line) };
 
     /// Is called after it, with the words in use as the worker reads them, without the lock: those
     /// before the phase, and what all workers got in use since less what they gave back, modulo
     /// 2^64. With one worker they are the system's.
-    fn after(&self, worker: usize, line: u32, used: u64);
+    fn after(&self, worker: usize, line: u32, used: u64)
+        requires { told self.now (Before worker line) }
+        ensures { told self.now (After worker line used) };
 
     /// Tells whether `after` looks at the words in use. Where it doesn't, a worker needn't count or
     /// read them and tells 0.
@@ -29,4 +39,13 @@ impl Gate for NoGate {
     fn looks(&self) -> bool {
         false
     }
+}
+
+/// How lines are answered: which gate is called round them, and in how much detail reports tell.
+#[derive(Drop)]
+pub struct Manner<'a, G> {
+    /// The gate.
+    pub gate: &'a G,
+    /// What reports tell.
+    pub detail: Detail,
 }

@@ -7,15 +7,14 @@
 ghost use Rattle.std.specs.Prelude.{◌≡◌, [], IsOk, IfOk, IfErr, OnOk, None, map, vec_len};
 ghost use Rattle.std.specs.List.{All};
 ghost use Rattle.ms_base.specs.declared.refusal.Refusal.TheVariants as Refusal;
-ghost use Rattle.ms_base.specs.Good.{IsGood};
 ghost use Rattle.ms_base.specs.Names.{AreNamed, named, with_new};
 ghost use Rattle.ms_loaders.specs.Loaders.{InsertRefused};
 ghost use Rattle.ms_shared.specs.SeatView.{SeatState, Gathers, IsHistory};
 ghost use Rattle.ms_run.specs.Joined.{HaveOtherNames, IsJoined, AreJoined, IsWantOrUnsettled};
-ghost use Rattle.ms_run.specs.Joined.{IsMadeFrom};
+ghost use Rattle.ms_run.specs.Joined.{IsEnded};
 ghost use Rattle.ms_run.specs.Joined.{seat_of};
-ghost use Rattle.ms_run.specs.Metering.{used_words_of, used_over, meter_of};
-ghost use Rattle.ms_run.specs.Shares.{Place, AreApart, IsGathered, IsMannedShare, StandOver};
+ghost use Rattle.ms_run.specs.Metering.{meter_of};
+ghost use Rattle.ms_run.specs.Shares.{Place, AreApart, IsMannedShare, StandOver};
 
 use crate::fault::RunFault;
 use crate::share::Share;
@@ -34,12 +33,7 @@ pub fn gather(
 ) -> Result<(System, Vec<MeterSeat>), RunFault>
     requires stand { StandOver shared (vec_len shares) shares.items }
     requires apart { (place : Place) × AreApart place shares.items }
-    ensures gathered { IfOk result (λ ended. (place : Place) → AreApart place shares.items
-        → IsGathered place shares.items ended.0.loaders) }
-    ensures good { IfOk result (λ ended. IsGood ended.0) }
-    ensures limits { IfOk result (λ ended. ended.0.limits ≡ shared.first.limits) }
-    ensures history { IfOk result (λ ended. IsMadeFrom shared.first shares.items ended.0) }
-    ensures used { IfOk result (λ ended. used_words_of ended.0 ≡ used_over shares.items) }
+    ensures gathered { IfOk result (λ ended. IsEnded shared.first shares.items ended.0) }
     ensures meters { IfOk result (λ ended. ended.1.items ≡ map meter_of shares.items) }
     ensures wanting { IfErr result (λ fault. fault ≡ RunFault.OutOfMemory) }
 {

@@ -3,16 +3,13 @@
 //! Kept true: what a loader gets in use is added once it has it, and what an unloaded one had is
 //! taken off before it is closed. One atomic step a line at most, and no lock beside that of the
 //! line itself.
-ghost use Rattle.std.specs.Prelude.{◌≡◌, ◌≢◌, ◌+◌, ℕ, Bool, Some};
-ghost use Rattle.ms_base.specs.Run.Alone.{OwnReply};
+ghost use Rattle.std.specs.Prelude.{◌≡◌, ◌+◌, ℕ, Some};
 ghost use Rattle.ms_base.specs.Names.{named};
 ghost use Rattle.ms_base.specs.Request.{loader_of};
-ghost use Rattle.ms_loaders.specs.System.{states_of};
 ghost use Rattle.ms_loaders.specs.Used.{used_at, used_in};
 ghost use Rattle.ms_run.specs.Acts.{HasMade, Makes, Touches};
 ghost use Rattle.ms_run.specs.Answering.{IsAnswered};
 ghost use Rattle.ms_run.specs.Manned.{IsManned};
-ghost use Rattle.ms_base.specs.Run.Own.{own_in};
 ghost use Rattle.ms_run.specs.Metering.{MovesNoTop};
 ghost use Rattle.ms_run.specs.Moved.{IsMoved};
 
@@ -130,13 +127,7 @@ fn answer<R: Wait>(
 ) -> Reply
     requires { IsManned pool.old.knows loaders.old }
     ensures lock { pool.new.id ≡ pool.old.id }
-    ensures manned { IsManned pool.new.knows loaders.new }
-    ensures own { (name : ℕ) → loader_of step ≡ Some name → (refused : Bool)
-        × OwnReply (own_in (states_of loaders.old) name) step refused result
-        (own_in (states_of loaders.new) name) }
-    ensures others { (name : ℕ) → loader_of step ≢ Some name
-        → named loaders.new name ≡ named loaders.old name }
-    ensures purge { step ≡ Step.Purge → result ≡ Reply.Ok }
+    ensures answered { IsAnswered loaders.old step result pool.new.knows loaders.new }
     ensures made { HasMade pool.old pool.new (Makes loaders.old step result loaders.new) }
     ensures touches { Touches loaders.old step result loaders.new }
     ensures used { MovesNoTop step → (name : ℕ)

@@ -21,7 +21,7 @@ ghost use Rattle.ms_run.specs.Workers.{named_by};
 use crate::alone::{Metered, answer_line, begin_run};
 use crate::between::totals_of;
 use crate::fault::RunFault;
-use crate::gate::NoGate;
+use crate::gate::{Manner, NoGate};
 use crate::observer::Observer;
 use crate::turn::loader_named;
 use ms_base::{NODE_WORDS, Settings};
@@ -95,7 +95,11 @@ fn watch_line<S: AnswerSink, O: Observer>(
 {
     let name = name_in(line);
     let before = amounts_at(&run.system, name);
-    let reply = answer_line(alloc, &NoGate, 0, true, Detail::Full, line, run, sink)?;
+    let manner = Manner {
+        gate: &NoGate,
+        detail: Detail::Full,
+    };
+    let reply = answer_line(alloc, &manner, 0, true, line, run, sink)?;
     let after = amounts_at(&run.system, name);
     let now = moved(amounts, before, after);
     let stands = standing(&run.system, now);

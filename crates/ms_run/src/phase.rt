@@ -8,28 +8,31 @@
 //! meter moved as its words in use did. Peaks are raised at the end, or line by line by one worker.
 //! Takes memory; waits for the lock and for threads where two
 //! workers have lines.
-ghost use Rattle.std.specs.Prelude.{◌≡◌, IsOk, IfOk, IfErr, OnOk, map, vec_len};
+ghost use Rattle.std.specs.Prelude.{◌≡◌, IsOk, IfOk, IfErr, OnOk, map, true, vec_len};
 ghost use Rattle.std.specs.List.{All};
 ghost use Rattle.ms_base.specs.Good.{IsGood};
 ghost use Rattle.ms_run.specs.Replay.{AreKept, IsWanting};
 ghost use Rattle.ms_run.specs.Sink.{AreOfPhase, Puts, PutsAll};
 ghost use Rattle.ms_shared.specs.MeterRule.{MeterSeatState};
-ghost use Rattle.ms_run.specs.Joined.{IsMadeFrom};
-ghost use Rattle.ms_run.specs.Shares.{AreApart, AreSteps, IsGathered, Place, StandOver};
-ghost use Rattle.ms_run.specs.Metering.{amount_of, meter_of, used_over, used_words_of};
+ghost use Rattle.ms_run.specs.Counting.{IsCounted};
+ghost use Rattle.ms_run.specs.Joined.{IsEnded};
+ghost use Rattle.ms_run.specs.Gating.{AreGated};
+ghost use Rattle.ms_loaders.specs.declared.details.Detail.{Detail as DetailOf};
+ghost use Rattle.ms_run.specs.Shares.{AreApart, AreSteps, Place, StandOver};
+ghost use Rattle.ms_run.specs.Metering.{amount_of, meter_of, used_words_of};
 ghost use Rattle.ms_run.specs.Turn.{worker_in, HaveOwnShares, IsSameTurn, TurnState};
 
 use crate::alone::{Metered, answer_lines};
 use crate::dealing::deal;
 use crate::fault::RunFault;
-use crate::gate::Gate;
+use crate::gate::{Gate, Manner};
 use crate::gathering::{fault_of, gather};
 use crate::merging::merge;
 use crate::peaks::raise;
 use crate::share::Share;
 use crate::turn::Turn;
 use crate::working::work_all;
-use ms_loaders::{Answer, AnswerSink, Detail, System};
+use ms_loaders::{Answer, AnswerSink, System};
 use ms_shared::{MeterSeat, SharedPool, UsedMeter};
 use ms_trace::Line;
 use std::alloc::{AllocError, Global};
@@ -40,23 +43,20 @@ use std::thread::Threads;
 pub fn run_phase<R: Threads + Wait + Sync, G: Gate + Sync, S: AnswerSink>(
     rt: &R,
     alloc: Global,
-    gate: &G,
+    manner: &Manner<'_, G>,
     turn: &mut Turn,
-    detail: Detail,
     lines: &[Line],
     run: Metered,
     sink: &mut S,
 ) -> Result<Metered, RunFault>
-    requires good { IsGood run.system }
-    requires used { run.used ≡ used_words_of run.system }
+    requires counted { IsCounted true manner.now.detail run }
     requires steps { AreSteps lines.now }
-    requires kept { AreKept detail run.peaks }
     ensures phase { IfOk result (λ after. Puts S.took
-        (AreOfPhase detail (worker_in turn.old) run lines.now after) sink.old sink.new) }
-    ensures good { IfOk result (λ after. IsGood after.system) }
+        (AreOfPhase manner.now.detail (worker_in turn.old) run lines.now after) sink.old sink.new) }
+    ensures gated { OnOk result
+        (AreGated (G.told manner.now.gate.now) (worker_in turn.old) lines.now) }
     ensures turn { IsSameTurn turn.old turn.new }
-    ensures used { IfOk result (λ after. after.used ≡ used_words_of after.system) }
-    ensures kept { IfOk result (λ after. AreKept detail after.peaks) }
+    ensures counted { IfOk result (IsCounted true manner.now.detail) }
     ensures wanting { IfErr result IsWanting }
 {
     turn.activate(lines);
@@ -65,20 +65,12 @@ pub fn run_phase<R: Threads + Wait + Sync, G: Gate + Sync, S: AnswerSink>(
         // Into a list, so that the loop that puts each answer into the sink has one user, and is
         // inlined there.
         let mut answers = Vec::new(alloc);
-        answer_lines(
-            alloc,
-            gate,
-            turn.worker(0),
-            true,
-            detail,
-            lines,
-            &mut run,
-            &mut answers,
-        )?;
+        let worker = turn.worker(0);
+        answer_lines(alloc, manner, worker, true, lines, &mut run, &mut answers)?;
         put_all(answers, sink)?;
         return Ok(run);
     }
-    run_shares(rt, alloc, gate, turn, detail, lines, run, sink)
+    run_shares(rt, alloc, manner.gate, turn, lines, run, sink)
 }
 
 /// Puts answers into a sink, in their order.
@@ -97,7 +89,6 @@ fn run_shares<R: Threads + Wait + Sync, G: Gate + Sync, S: AnswerSink>(
     alloc: Global,
     gate: &G,
     turn: &Turn,
-    detail: Detail,
     lines: &[Line],
     run: Metered,
     sink: &mut S,
@@ -105,14 +96,13 @@ fn run_shares<R: Threads + Wait + Sync, G: Gate + Sync, S: AnswerSink>(
     requires good { IsGood run.system }
     requires used { run.used ≡ used_words_of run.system }
     requires steps { AreSteps lines.now }
-    requires kept { AreKept detail run.peaks }
     requires shared { HaveOwnShares turn.now lines.now }
-    ensures phase { (before : TurnState) → IsSameTurn before turn.now
+    ensures phase { (before : TurnState) (detail : DetailOf) → IsSameTurn before turn.now
         → IfOk result (λ after. Puts S.took
         (AreOfPhase detail (worker_in before) run lines.now after) sink.old sink.new) }
-    ensures good { IfOk result (λ after. IsGood after.system) }
-    ensures used { IfOk result (λ after. after.used ≡ used_words_of after.system) }
-    ensures kept { IfOk result (λ after. AreKept detail after.peaks) }
+    ensures gated { OnOk result (AreGated (G.told gate.now) (worker_in turn.now) lines.now) }
+    ensures counted { (detail : DetailOf) → AreKept detail run.peaks
+        → IfOk result (IsCounted true detail) }
     ensures wanting { IfErr result IsWanting }
 {
     let Metered {
@@ -146,12 +136,7 @@ fn end_shares(
     requires own { All (λ (seat : MeterSeatState). seat.id ≡ meter.id)
         (map meter_of shares.items) }
     requires count { meter.seats ≡ vec_len shares }
-    ensures gathered { IfOk result (λ ended. (place : Place) → AreApart place shares.items
-        → IsGathered place shares.items ended.0.loaders) }
-    ensures good { IfOk result (λ ended. IsGood ended.0) }
-    ensures limits { IfOk result (λ ended. ended.0.limits ≡ shared.first.limits) }
-    ensures history { IfOk result (λ ended. IsMadeFrom shared.first shares.items ended.0) }
-    ensures used { IfOk result (λ ended. used_words_of ended.0 ≡ used_over shares.items) }
+    ensures gathered { IfOk result (λ ended. IsEnded shared.first shares.items ended.0) }
     ensures amount { IfOk result (λ ended. ended.1 ≡ amount_of (map meter_of shares.items)) }
     ensures wanting { IfErr result IsWanting }
 {

@@ -13,6 +13,7 @@ ghost use Rattle.ms_trace.specs.Steps.{step_of};
 ghost use Rattle.std.specs.List.{All};
 ghost use Rattle.ms_run.specs.Course.{Course, begun};
 ghost use Rattle.ms_run.specs.Metering.{used_words_of};
+ghost use Rattle.ms_run.specs.Gating.{AreGatedByTurn};
 ghost use Rattle.ms_run.specs.Replay.{IsReplay, Answers, AreKept, IsDetailed, IsWanting};
 ghost use Rattle.ms_run.specs.Sink.{AreOfPhases, AreToTrace, IsOfEnd, Puts};
 ghost use Rattle.ms_run.specs.Shares.{AreSteps};
@@ -21,7 +22,7 @@ ghost use Rattle.ms_run.specs.Turn.{AreFirst, IsNextTurn};
 use crate::alone::{Metered, answer_alone, begin_run};
 use crate::between::answer_between;
 use crate::fault::RunFault;
-use crate::gate::Gate;
+use crate::gate::{Gate, Manner};
 use crate::phase::run_phase;
 use crate::turn::Turn;
 use ms_base::Settings;
@@ -37,10 +38,11 @@ use std::thread::Threads;
 /// One worker is the caller itself, and runs all lines in their order. With two or more, a phase
 /// ends at each `sync`, at each `report` and at the end of the trace; loader number j, from 0 on by
 /// first appearance, is worked by worker (j + k) mod W in phase k, from 0 on, and a `purge` by
-/// worker 0. Workers are threads, but for a phase in which only one has lines. `OutOfMemory` comes
-/// where a growth of the run itself is refused, `NoThread` where a thread can't be started; a line
-/// that is refused for want of memory is answered so. Takes memory; with two workers or more it
-/// waits for the lock of the pool and for threads to end. This project's choice.
+/// worker 0. Workers are threads, but for a phase in which only one has lines. A line's worker calls
+/// the gate before the line and after it, with the line's number, where the line asks a step.
+/// `OutOfMemory` comes where a growth of the run itself is refused, `NoThread` where a thread can't
+/// be started; a line that is refused for want of memory is answered so. Takes memory; with two
+/// workers or more it waits for the lock of the pool and for threads to end. This project's choice.
 pub fn replay<R: Threads + Wait + Sync, G: Gate + Sync>(
     rt: &R,
     alloc: Global,
@@ -54,6 +56,8 @@ pub fn replay<R: Threads + Wait + Sync, G: Gate + Sync>(
         (begun (empty_machine (limits_of settings))) trace.now.lines replies.answers.items last) }
     ensures detailed { IfOk result (λ replies.
         All (IsDetailed Detail.Basic) replies.answers.items) }
+    ensures gated { OnOk result
+        (AreGatedByTurn (G.told gate.now) settings.workers trace.now.lines) }
     ensures wanting { IfErr result IsWanting }
     ensures no_thread { settings.workers ≡ 1
         → IfErr result (λ fault. fault ≡ RunFault.OutOfMemory) }
@@ -76,6 +80,8 @@ pub fn replay_detailed<R: Threads + Wait + Sync, G: Gate + Sync>(
     ensures run { settings.workers ≡ 1 → IfOk result (λ replies. (last : Course) × Answers
         (begun (empty_machine (limits_of settings))) trace.now.lines replies.answers.items last) }
     ensures detailed { IfOk result (λ replies. All (IsDetailed detail) replies.answers.items) }
+    ensures gated { OnOk result
+        (AreGatedByTurn (G.told gate.now) settings.workers trace.now.lines) }
     ensures wanting { IfErr result IsWanting }
     ensures no_thread { settings.workers ≡ 1
         → IfErr result (λ fault. fault ≡ RunFault.OutOfMemory) }
@@ -100,15 +106,18 @@ pub fn replay_into<R: Threads + Wait + Sync, G: Gate + Sync, S: AnswerSink>(
     sink: &mut S,
 ) -> Result<(), RunFault>
     ensures answers { OnOk result (Puts S.took (AreToTrace settings detail trace.now.lines) sink.old sink.new) }
+    ensures gated { OnOk result
+        (AreGatedByTurn (G.told gate.now) settings.workers trace.now.lines) }
     ensures wanting { IfErr result IsWanting }
     ensures no_thread { settings.workers ≡ 1
         → IfErr result (λ fault. fault ≡ RunFault.OutOfMemory) }
 {
     let lines = trace.lines.as_slice();
+    let manner = Manner { gate, detail };
     if settings.workers != 1 {
-        return take_turns(rt, alloc, gate, settings, detail, lines, sink);
+        return take_turns(rt, alloc, &manner, settings, lines, sink);
     }
-    answer_alone(alloc, gate, settings, detail, lines, sink)?;
+    answer_alone(alloc, &manner, settings, lines, sink)?;
     Ok(())
 }
 
@@ -116,26 +125,27 @@ pub fn replay_into<R: Threads + Wait + Sync, G: Gate + Sync, S: AnswerSink>(
 fn take_turns<R: Threads + Wait + Sync, G: Gate + Sync, S: AnswerSink>(
     rt: &R,
     alloc: Global,
-    gate: &G,
+    manner: &Manner<'_, G>,
     settings: Settings,
-    detail: Detail,
     lines: &[Line],
     sink: &mut S,
 ) -> Result<(), RunFault>
-    ensures answers { OnOk result (Puts S.took (AreOfPhases settings detail lines.now) sink.old sink.new) }
+    ensures answers { OnOk result (Puts S.took
+        (AreOfPhases settings manner.now.detail lines.now) sink.old sink.new) }
+    ensures gated { OnOk result
+        (AreGatedByTurn (G.told manner.now.gate.now) settings.workers lines.now) }
     ensures wanting { IfErr result IsWanting }
 {
     let mut turn = Turn::new(alloc, settings, lines)?;
-    answer_phases(rt, alloc, gate, settings, detail, lines, &mut turn, sink)
+    answer_phases(rt, alloc, manner, settings, lines, &mut turn, sink)
 }
 
 /// Answers the lines phase by phase, from a system without loaders on.
 fn answer_phases<R: Threads + Wait + Sync, G: Gate + Sync, S: AnswerSink>(
     rt: &R,
     alloc: Global,
-    gate: &G,
+    manner: &Manner<'_, G>,
     settings: Settings,
-    detail: Detail,
     lines: &[Line],
     turn: &mut Turn,
     sink: &mut S,
@@ -143,18 +153,21 @@ fn answer_phases<R: Threads + Wait + Sync, G: Gate + Sync, S: AnswerSink>(
     requires numbered { AreFirst lines.now settings.workers turn.old.first }
     requires workers { turn.old.workers ≡ settings.workers }
     requires phase { turn.old.phase ≡ 0 }
-    ensures answers { OnOk result (Puts S.took (AreOfPhases settings detail lines.now) sink.old sink.new) }
+    ensures answers { OnOk result (Puts S.took
+        (AreOfPhases settings manner.now.detail lines.now) sink.old sink.new) }
+    ensures gated { OnOk result
+        (AreGatedByTurn (G.told manner.now.gate.now) settings.workers lines.now) }
     ensures wanting { IfErr result IsWanting }
 {
-    let mut run = begin_run(alloc, settings, detail)?;
+    let mut run = begin_run(alloc, settings, manner.detail)?;
     let mut at = 0;
     while at < lines.len() {
         let count = steps_first(&lines[at..]);
         let steps = &lines[at..at + count];
-        run = run_phase(rt, alloc, gate, turn, detail, steps, run, sink)?;
+        run = run_phase(rt, alloc, manner, turn, steps, run, sink)?;
         at += count;
         if at < lines.len() {
-            end_phase(alloc, turn, &run, detail, &lines[at], sink)?;
+            end_phase(alloc, turn, &run, manner.detail, &lines[at], sink)?;
             at += 1;
         }
     }

@@ -248,7 +248,6 @@ fn find_active(
     active: &mut Vec<usize>,
     places: &mut [usize],
 )
-    requires some { 1 ≤ workers }
     requires phase { phase < workers }
     requires few { workers ≤ 8 }
     requires room { 8 ≤ vec_capacity active.old }

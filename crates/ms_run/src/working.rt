@@ -4,11 +4,13 @@
 //! each reply before its thread starts; the share's seat of the meter counts what its loaders get
 //! and give back. Takes memory for the threads and their results; waits for the lock, and for the
 //! threads to end.
-ghost use Rattle.std.specs.Prelude.{◌≡◌, IfOk, IfErr};
+ghost use Rattle.std.specs.Prelude.{◌≡◌, IfOk, IfErr, OnOk};
 ghost use Rattle.std.specs.List.{All};
 ghost use Rattle.ms_run.specs.Replay.{IsWanting};
 ghost use Rattle.ms_run.specs.Metering.{after_look};
 ghost use Rattle.ms_run.specs.Shares.{IsReadyFor, IsWorked, AllWorked};
+ghost use Rattle.ms_run.specs.declared.share.Share.{Share as ShareOf};
+ghost use Rattle.ms_run.specs.Gating.{AreTasksGated};
 
 use crate::fault::RunFault;
 use crate::gate::Gate;
@@ -21,14 +23,26 @@ use std::sync::Wait;
 use std::thread;
 use std::thread::{Promise, Threads};
 
-/// That a thread works the share that was handed to it.
-#[derive(Drop)]
-struct WorkOf(Snapshot<Share>);
+/// That a thread works the share that was handed to it, and calls the gate for each task.
+struct WorkOf<G> {
+    share: Snapshot<Share>,
+    gate: Snapshot<G>,
+}
 
-impl Promise<Share> for WorkOf {
+impl<G> Drop for WorkOf<G> {
+    /// Lets both snapshots go, which have no bytes.
+    fn drop(self) {
+        let WorkOf { share: _, gate: _ } = self;
+    }
+}
+
+impl<G: Gate> Promise<Share> for WorkOf<G> {
+    ghost use Rattle.ms_run.specs.Gating.{AreTasksGated};
     ghost use Rattle.ms_run.specs.Shares.{IsWorked};
 
-    ghost kept_by = { λ work done. IsWorked work.0.value done };
+    ghost kept_by = { λ work done. IsWorked work.share.value done
+        × AreTasksGated (G.told work.gate.value) work.share.value.worker
+        work.share.value.tasks.items };
 }
 
 /// Works all shares, each by a thread. An error means that memory or a thread was wanting; then
@@ -45,6 +59,8 @@ pub fn work_all<R: Threads + Wait + Sync, G: Gate + Sync>(
 ) -> Result<Vec<Share>, RunFault>
     requires { All (IsReadyFor shared.now meter.now) shares.items }
     ensures worked { IfOk result (λ done. AllWorked shares.items done.items) }
+    ensures gated { OnOk result (All (λ (share : ShareOf).
+        AreTasksGated (G.told gate.now) share.worker share.tasks.items) shares.items) }
     ensures wanting { IfErr result IsWanting }
 {
     thread::scope(
@@ -53,16 +69,24 @@ pub fn work_all<R: Threads + Wait + Sync, G: Gate + Sync>(
         |scope| -> Result<Vec<Share>, RunFault>
             requires { All (IsReadyFor shared.now meter.now) shares.items }
             ensures worked { IfOk result (λ done. AllWorked shares.items done.items) }
+            ensures gated { OnOk result (All (λ (share : ShareOf).
+                AreTasksGated (G.told gate.entry.now) share.worker share.tasks.items)
+                shares.items) }
             ensures wanting { IfErr result IsWanting }
         {
             let mut handles = Vec::with_capacity(alloc, shares.len())?;
             for share in shares {
-                let work_of = WorkOf(Snapshot::of(&share));
+                let work_of = WorkOf {
+                    share: Snapshot::of(&share),
+                    gate: Snapshot::of(gate),
+                };
                 let started = scope.spawn_with(
                     work_of,
                     move || -> Share
                         requires { IsReadyFor shared.now meter.now share }
-                        ensures { IsWorked share result }
+                        ensures worked { IsWorked share result }
+                        ensures gated { AreTasksGated (G.told gate.entry.now) share.worker
+                            share.tasks.items }
                     { work(rt, alloc, shared, meter, before, gate, share) },
                 );
                 match started {
@@ -84,7 +108,7 @@ pub fn work_all<R: Threads + Wait + Sync, G: Gate + Sync>(
     )
 }
 
-/// Works a share.
+/// Works a share: each task between the gate's two calls.
 fn work<R: Wait, G: Gate>(
     rt: &R,
     alloc: Global,
@@ -95,7 +119,8 @@ fn work<R: Wait, G: Gate>(
     share: Share,
 ) -> Share
     requires { IsReadyFor shared.now meter.now share }
-    ensures { IsWorked share result }
+    ensures worked { IsWorked share result }
+    ensures gated { AreTasksGated (G.told gate.now) share.worker share.tasks.items }
 {
     let Share {
         worker,

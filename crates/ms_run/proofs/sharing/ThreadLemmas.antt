@@ -3,7 +3,8 @@
 use Rattle.std.proofs.Common.{◌≡◌, ◌<◌, ℕ, zero, suc, List, [], ◌∷◌, ◌++◌, length, map, get_or, refl, ap, sym, ◌∙◌}
 use Rattle.std.proofs.Common.{subst, arith}
 use Rattle.std.proofs.lemmas.List.{append-nil}
-use Rattle.std.specs.List.{All}
+use Rattle.std.specs.List.{All, AllByRecursion}
+use Rattle.std.proofs.lemmas.List.Elements.{All-from_recursion}
 use Rattle.ms_shared.specs.SeatView.{LockState}
 use Rattle.ms_shared.specs.MeterRule.{MeterState}
 use Rattle.ms_run.specs.declared.share.Share.{Share}
@@ -158,3 +159,23 @@ all_worked of (handle ∷ handles) (result ∷ done) same each =
       subst (λ h. IsWorked (of h) result) first.1 first.2,
       all_worked of handles done (omega arith) (λ i d below. each (suc i) d (omega arith)),
     )
+
+-- And what each thread keeps of its own share is true of all.
+shares_keep : {H : Type 0} (of : H → Share) (Kept : Share → Type 0) (handles : List H) (done : List Share)
+    → length done ≡ length handles
+    → ((i : ℕ) (d : Share) → i < length handles → (h : H) × (h ≡ get_or handles i h) × Kept (of h))
+    → AllByRecursion Kept (map of handles)
+shares_keep of Kept [] done same each = tt
+shares_keep of Kept (handle ∷ handles) [] same each = absurd (omega arith)
+shares_keep of Kept (handle ∷ handles) (result ∷ done) same each =
+    let first = each zero result (omega arith) in (
+      subst (λ h. Kept (of h)) first.1 first.2,
+      shares_keep of Kept handles done (omega arith) (λ i d below. each (suc i) d (omega arith)),
+    )
+
+pub all_kept : {H : Type 0} (of : H → Share) (Kept : Share → Type 0) (handles : List H) (done : List Share)
+    → length done ≡ length handles
+    → ((i : ℕ) (d : Share) → i < length handles → (h : H) × (h ≡ get_or handles i h) × Kept (of h))
+    → All Kept (map of handles)
+all_kept of Kept handles done same each =
+    All-from_recursion Kept (map of handles) (shares_keep of Kept handles done same each)

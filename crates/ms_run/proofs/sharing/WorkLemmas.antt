@@ -1,24 +1,15 @@
 -- The work on a share, task by task: for working.rt.
-use Rattle.std.proofs.Common.{◌≡◌, ◌≢◌, ℕ, ◌+◌, ◌<◌, ◌≤◌, ◌⊎◌, inl, inr, Bool, true, false, Option, Some, None, List}
-use Rattle.std.proofs.Common.{[], ◌∷◌, ◌++◌, map, length, get_or, Vec, Global, vec_len, vec_capacity, refl}
+use Rattle.std.proofs.Common.{◌≡◌, ℕ, ◌+◌, ◌<◌, ◌≤◌, Bool, List}
+use Rattle.std.proofs.Common.{[], ◌∷◌, ◌++◌, length, get_or, Vec, Global, vec_len, vec_capacity, refl}
 use Rattle.std.proofs.Common.{sym, ap, ◌∙◌, subst, arith}
-use Rattle.std.proofs.lemmas.Bool.{eq-eqb, ne_eqb}
-use Rattle.std.proofs.lemmas.List.{map-append, append-nil}
-use Rattle.std.proofs.lemmas.List.Elements.{filter-append, All-append, All-from_recursion}
-use mathlib.Core.Logic.{dite}
-use native.Mathlib.Decide.{ℕ_discrete}
+use Rattle.std.proofs.lemmas.List.Elements.{All-append, All-from_recursion}
 use Rattle.ms_base.specs.declared.step.Step.{Step}
 use Rattle.ms_base.specs.declared.step.Step.TheVariants.{Purge}
 use Rattle.ms_base.specs.declared.step.Reply.{Reply}
 use Rattle.ms_base.specs.declared.step.Reply.TheVariants.{Ok as Done}
-use Rattle.ms_base.specs.Run.Alone.{OwnLoader, OwnReply, OwnReplies}
-use Rattle.ms_base.specs.Names.{named}
-use Rattle.ms_base.specs.Request.{loader_of, is_name}
 use Rattle.ms_loaders.specs.Loader.{LoaderView}
-use Rattle.ms_loaders.specs.System.{states_of}
 use Rattle.ms_loaders.specs.Used.{used_in}
 use Rattle.ms_run.proofs.metered.MeterMoveLemmas.{moved_looked, moved_none, moved_then}
-use Rattle.ms_run.proofs.TouchLemmas.{same_own}
 use Rattle.ms_shared.specs.MeterRule.{MeterSeatState}
 use Rattle.ms_shared.specs.SeatView.{SeatState}
 use Rattle.ms_run.specs.Acts.{HasMade, Makes, Touches, HasActed}
@@ -27,77 +18,10 @@ use Rattle.ms_run.specs.Answering.{IsAnswered}
 use Rattle.ms_run.specs.Manned.{IsManned}
 use Rattle.ms_run.specs.Metering.{after_look}
 use Rattle.ms_run.specs.Moved.{IsMoved}
-use Rattle.ms_base.specs.Run.Own.{Said, own_said, own_in, OwnRun, ArePurged}
+use Rattle.ms_base.specs.Run.Own.{Said, ArePurged}
 use Rattle.ms_run.specs.Shares.{said_in, IsWorked}
 use Rattle.ms_run.specs.declared.share.Task.{Task}
 use Rattle.ms_run.specs.declared.share.Share.{Share}
-
--- One reply more.
-replies_more : (before : Option OwnLoader) (steps : List Step) (flags : List Bool) (replies : List Reply)
-    (mid : Option OwnLoader) (step : Step) (refused : Bool) (reply : Reply)
-    (after : Option OwnLoader)
-    → OwnReplies before steps flags replies mid → OwnReply mid step refused reply after
-    → OwnReplies before (steps ++ step ∷ []) (flags ++ refused ∷ []) (replies ++ reply ∷ []) after
-replies_more before [] [] [] mid step refused reply after run one =
-    (after, subst (λ (own : Option OwnLoader). OwnReply own step refused reply after) run one, refl)
-replies_more before (s ∷ steps) (f ∷ flags) (r ∷ replies) mid step refused reply after run one =
-    (run.0, run.1, replies_more run.0 steps flags replies mid step refused reply after run.2 one)
-replies_more before [] [] (r ∷ replies) mid step refused reply after run one = absurd run
-replies_more before [] (f ∷ flags) replies mid step refused reply after run one = absurd run
-replies_more before (s ∷ steps) [] replies mid step refused reply after run one = absurd run
-replies_more before (s ∷ steps) (f ∷ flags) [] mid step refused reply after run one = absurd run
-
-abbrev step_in : Said → Step
-step_in s = s.0
-
-abbrev reply_in : Said → Reply
-reply_in s = s.1
-
-run_more : (before : Option OwnLoader) (said : List Said) (mid : Option OwnLoader) (s : Said) (after : Option OwnLoader)
-    → OwnRun before said mid → (refused : Bool) × OwnReply mid s.0 refused s.1 after
-    → OwnRun before (said ++ s ∷ []) after
-run_more before said mid s after run one = (
-  run.0 ++ one.0 ∷ [],
-  rw (map-append step_in said (s ∷ []), map-append reply_in said (s ∷ []))
-      (replies_more before (map step_in said) run.0 (map reply_in said) mid s.0 one.0 s.1 after run.1 one.1),
-)
-
--- Whether a step is of a name.
-by_name : (name : ℕ) (asked : Option ℕ) → ((asked ≡ Some name) × (is_name name asked ≡ true))
-    ⊎ ((asked ≢ Some name) × (is_name name asked ≡ false))
-by_name name None = inr ((λ e. absurd (cc)), refl)
-by_name name (Some other) =
-    dite (ℕ_discrete other name) (λ e. inl (ap Some e, eq-eqb other name e))
-    (λ n. inr ((λ e. n (cc)), ne_eqb other name n))
-
--- The replies to each loader's requests are its own.
-abbrev pub AreOwn : List (ℕ × LoaderView) → List Said → List (ℕ × LoaderView) → Type 0
-AreOwn start said end =
-    (name : ℕ) → OwnRun (own_in (states_of start) name) (own_said name said) (own_in (states_of end) name)
-
-pub none_said : (start : List (ℕ × LoaderView)) → AreOwn start [] start
-none_said start name = ([], refl)
-
--- What an answer to one step tells.
-abbrev TellsOwn : List (ℕ × LoaderView) → Step → Reply → List (ℕ × LoaderView) → Type 0
-TellsOwn mid step reply end = (name : ℕ) → loader_of step ≡ Some name
-    → (refused : Bool) × OwnReply (own_in (states_of mid) name) step refused reply (own_in (states_of end) name)
-
-abbrev is_said_of : ℕ → Said → Bool
-is_said_of name s = is_name name (loader_of s.0)
-
-own_more : (start mid end : List (ℕ × LoaderView)) (said : List Said) (step : Step) (reply : Reply)
-    → AreOwn start said mid → TellsOwn mid step reply end
-    → ((name : ℕ) → loader_of step ≢ Some name → named end name ≡ named mid name)
-    → AreOwn start (said ++ (step, reply) ∷ []) end
-own_more start mid end said step reply run own others name =
-    rw (filter-append (is_said_of name) said ((step, reply) ∷ [])) (elim (by_name name (loader_of step)) [
-      | inl its ↦
-          rw its.1 (run_more (own_in (states_of start) name) (own_said name said) (own_in (states_of mid) name)
-          (step, reply) (own_in (states_of end) name) (run name) (own name its.0))
-      | inr other ↦
-          rw other.1 (rw (append-nil (own_said name said), same_own end mid name (others name other.0)) (run name))
-    ])
 
 -- One task more.
 said_more : (tasks : List Task) (replies : List Reply) (d : Task) (reply : Reply) → length replies < length tasks
@@ -121,15 +45,13 @@ purged_more said step reply all one =
     IsDone s = s.0 ≡ Purge → s.1 ≡ Done
 
 -- The share is worked so far: the seat serves the loaders and made the tasks' events, so many tasks
--- have their reply, each loader's replies are its own, and the meter's seat moved as the words in
--- use did.
+-- have their reply, and the meter's seat moved as the words in use did.
 pub record IsWorkedTo (share : Share) (pool : SeatState) (counted : MeterSeatState) (loaders : List (ℕ × LoaderView))
     (tasks : List Task) (index : ℕ) (replies : Vec Reply Global) : Type 0 where
   pub manned : IsManned pool.knows loaders
   pub id : pool.id ≡ share.seat.id
   pub count : vec_len replies ≡ index
   pub room : length tasks ≤ vec_capacity replies
-  pub own : AreOwn share.loaders (said_in tasks replies.items) loaders
   pub purges : ArePurged (said_in tasks replies.items)
   pub acted : HasActed share.seat pool share.loaders (said_in tasks replies.items) loaders
   pub moved : IsMoved share.meter (used_in share.loaders) counted (used_in loaders)
@@ -143,7 +65,6 @@ work_begins share pool tasks manned room none seat count = record {
   id = ap (λ (s : SeatState). s.id) seat;
   count = share.replies.ok.0 ∙ ap length none;
   room = omega arith;
-  own = subst (λ (l : List Said). AreOwn share.loaders l share.loaders) (sym said) (none_said share.loaders);
   purges = subst ArePurged (sym said) none_purged;
   acted = subst (λ (l : List Said). HasActed share.seat pool share.loaders l share.loaders) (sym said)
       (subst (λ (s : SeatState). HasActed share.seat s share.loaders [] share.loaders) (sym seat) (acted_none share.seat share.loaders));
@@ -178,9 +99,6 @@ work_goes_on share pool new_pool counted mid_counted new_counted loaders new_loa
       id = id ∙ its.id;
       count = let before = its.count in omega arith;
       room = let before = its.room in omega arith;
-      own = subst (λ (l : List Said). AreOwn share.loaders l new_loaders) (sym said)
-          (own_more share.loaders loaders new_loaders (said_in tasks replies.items) (get_or tasks index d).step reply
-          its.own answered.own answered.others);
       purges = subst ArePurged (sym said)
           (purged_more (said_in tasks replies.items) (get_or tasks index d).step reply its.purges answered.purge);
       acted = subst (λ (l : List Said). HasActed share.seat new_pool share.loaders l new_loaders) (sym said)
@@ -218,7 +136,6 @@ work_ends share pool seat counted loaders tasks index replies its seat_is tasks_
   manned = subst (λ (s : SeatState). IsManned s.knows loaders) (sym seat_is) its.manned;
   tasks = refl;
   replies = its.count ∙ all;
-  own = subst (λ (l : List Task). AreOwn share.loaders (said_in l replies.items) loaders) tasks_are its.own;
   purges = subst (λ (l : List Task). ArePurged (said_in l replies.items)) tasks_are its.purges;
   acted = subst (λ (s : SeatState). HasActed share.seat s share.loaders (said_in share.tasks.items replies.items) loaders) (sym seat_is)
       (subst (λ (l : List Task). HasActed share.seat pool share.loaders (said_in l replies.items) loaders) tasks_are its.acted);

@@ -30,17 +30,18 @@ returns-clause-dealt c =
     (c.in_ok-shared.ensures.lock ∙ sym counted)
 
 pub returns-clause-workers : goal.returns-clause-workers
-returns-clause-workers c =
-    worked_by_turn c.args.turn.now c.args.lines.now c.in_ok-shares.shares.items c.requires.shared
-    c.in_ok-shares.ensures.workers (returns-clause-dealt c).tasks
-
-pub returns-clause-count : goal.returns-clause-count
-returns-clause-count c =
-    let few : 1 ≤ c.shares-count.result =
-    subst (λ (n : ℕ). 1 ≤ n) (sym c.shares-count.ensures.count) c.shares-count.ensures.turn.some in
-    c.in_ok-shares.shares.ok.0 ∙ c.in_ok-shares.ensures.dealt.count_is ∙ c.in_ok-shared.seats.ok.0
-    ∙ seats_count c.in_ok-shared.shared c.shares-count.result c.in_ok-shared.seats.items c.args.pool few c.in_ok-shared.ensures.seats
-    ∙ c.shares-count.ensures.count
+returns-clause-workers c = record {
+  count =
+      let few : 1 ≤ c.shares-count.result =
+      subst (λ (n : ℕ). 1 ≤ n) (sym c.shares-count.ensures.count) c.shares-count.ensures.turn.some in
+      c.in_ok-shares.ensures.dealt.count_is ∙ c.in_ok-shared.seats.ok.0
+      ∙ seats_count c.in_ok-shared.shared c.shares-count.result c.in_ok-shared.seats.items c.args.pool few
+      c.in_ok-shared.ensures.seats
+      ∙ c.shares-count.ensures.count;
+  workers =
+      worked_by_turn c.args.turn.now c.args.lines.now c.in_ok-shares.shares.items c.requires.shared
+      c.in_ok-shares.ensures.workers (returns-clause-dealt c).tasks;
+}
 
 pub deal_metered-requires-clause-count : goal.deal_metered-requires-clause-count
 deal_metered-requires-clause-count c =

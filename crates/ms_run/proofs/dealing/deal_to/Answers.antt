@@ -74,12 +74,12 @@ loop-seat-preserved c = (
       (record {
         seat_is = refl;
         loaders_are = refl;
-        tasks = c.in_ok-share.ensures.tasks
+        tasks = c.in_ok-share.ensures.made.tasks_are
             ∙ c.loop-seat.invariant.2 (c.len-at.result + 1) c.take_list-tasks.result
             (inr (omega (arith, c.len-at.ensures))) c.take_list-tasks.ensures.taken
             ∙ sym (same_tasks (place_in c.args.turn.now) c.args.lines.now (c.len-at.result + 1));
-        room = c.in_ok-share.ensures.room;
-        none = c.in_ok-share.ensures.none;
+        room = c.in_ok-share.ensures.made.room;
+        none = c.in_ok-share.ensures.made.none;
       }) c.push_reserved.ensures.items,
   omega (arith, c.push_reserved.ensures.capacity, c.loop-seat.invariant.1),
   left_more (place_in c.args.turn.now) c.args.lines.now (vec_len c.loop-seat.shares) _
@@ -92,16 +92,16 @@ loop-seat-preserved c = (
       c.loop-seat.shares.items _ c.in_ok-share.share (rw c.in-Some.ensures.steps.0 at c.loop-seat.invariant.4)
       c.in_ok-share.ensures.used
       c.remove-meter.ensures.value c.remove-meter.ensures.items refl
-      c.in_ok-share.ensures.meter c.push_reserved.ensures.items,
+      c.in_ok-share.ensures.made.meter_is c.push_reserved.ensures.items,
   workers_pushed c.args.turn.now.active (c.len-at.result + 1) c.loop-seat.shares.items _ c.in_ok-share.share
-      c.loop-seat.invariant.5 c.in_ok-share.ensures.worker (omega (arith, c.len-at.ensures, c.loop-seat.shares.ok.0))
+      c.loop-seat.invariant.5 (c.in_ok-share.ensures.made.worker_is ∙ c.worker-worker.ensures) (omega (arith, c.len-at.ensures, c.loop-seat.shares.ok.0))
       c.push_reserved.ensures.items,
 )
 
 pub returns-clause-workers : goal.returns-clause-workers
 returns-clause-workers c = IfOk-weaker c.put_first.result _ _ (λ all is.
     workers_put c.args.turn.now.active c.loop-seat.shares.items all.items c.in_ok-share-2.share c.loop-seat.invariant.5
-    c.in_ok-share-2.ensures.worker is) c.put_first.ensures.items
+    (c.in_ok-share-2.ensures.made.worker_is ∙ c.worker.ensures) is) c.put_first.ensures.items
 
 pub returns-clause-dealt : goal.returns-clause-dealt
 returns-clause-dealt c = IfOk-weaker c.put_first.result _ _ (λ all is.
@@ -115,11 +115,11 @@ returns-clause-dealt c = IfOk-weaker c.put_first.result _ _ (λ all is.
     (record {
       seat_is = c.in_ok-share-2.ensures.seat;
       loaders_are = c.in_ok-share-2.ensures.loaders;
-      tasks = c.in_ok-share-2.ensures.tasks
+      tasks = c.in_ok-share-2.ensures.made.tasks_are
           ∙ c.loop-seat.invariant.2 0 c.take_list-tasks-2.result (inl refl) c.take_list-tasks-2.ensures.taken
           ∙ sym (same_tasks (place_in c.args.turn.now) c.args.lines.now 0);
-      room = c.in_ok-share-2.ensures.room;
-      none = c.in_ok-share-2.ensures.none;
+      room = c.in_ok-share-2.ensures.made.room;
+      none = c.in_ok-share-2.ensures.made.none;
     }) is)
     c.put_first.ensures.items
 
@@ -162,7 +162,7 @@ returns-clause-meters c = IfOk-weaker c.put_first.result _ _ (λ all is.
       c.args.seats.ok.0,
       ap (λ (l : List SeatState). length l) c.requires.seats.are,
     ))
-    c.remove-first_meter.ensures.value c.in_ok-share-2.ensures.meter is)
+    c.remove-first_meter.ensures.value c.in_ok-share-2.ensures.made.meter_is is)
     c.put_first.ensures.items
 
 pub returns-clause-used : goal.returns-clause-used

@@ -24,29 +24,28 @@ from_parts-requires c =
     c.requires.stand.manned c.in_ok-seats.ensures.loaders c.in_ok-seats.ensures.named
 
 pub returns-clause-gathered : goal.returns-clause-gathered
-returns-clause-gathered c = λ place apart.
-    subst (IsGathered place c.args.shares.items) (ap (λ (m : Machine). m.loaders) (sym c.from_parts.ensures.machine))
-    (all_gathered place c.args.shares.items c.in_ok-seats.loaders c.in_ok-seats.ensures.loaders apart)
-
-pub returns-clause-used : goal.returns-clause-used
-returns-clause-used c =
-    ap used_words_of c.from_parts.ensures.machine ∙ used_machine c.in_ok-pool.pool c.in_ok-seats.loaders
-    ∙ used_gathered c.args.shares.items c.in_ok-seats.loaders c.in_ok-seats.ensures.loaders
-
-pub returns-clause-history : goal.returns-clause-history
-returns-clause-history c = record {
-  last = c.in_ok-pool.pool;
-  ends = record {
-    loaders = c.in_ok-seats.loaders;
-    machine = c.from_parts.ensures.machine;
-    together = are_together _ c.args.shares.items _ c.committed.ensures.sound
-        (subst (λ (seats : List SeatState). Gathers seats c.in_ok-pool.pool) c.in_ok-seats.ensures.seats
-        c.in_ok-pool.ensures.gathered)
-        c.requires.stand.manned c.in_ok-seats.ensures.loaders c.in_ok-seats.ensures.named;
+returns-clause-gathered c = record {
+  gathered = λ place apart.
+      subst (IsGathered place c.args.shares.items) (ap (λ (m : Machine). m.loaders) (sym c.from_parts.ensures.machine))
+      (all_gathered place c.args.shares.items c.in_ok-seats.loaders c.in_ok-seats.ensures.loaders apart);
+  good = c.from_parts.ensures.good;
+  limits = ap (λ (m : Machine). m.limits) c.from_parts.ensures.machine ∙ c.in_ok-pool.ensures.limits;
+  history = record {
+    last = c.in_ok-pool.pool;
+    ends = record {
+      loaders = c.in_ok-seats.loaders;
+      machine = c.from_parts.ensures.machine;
+      together = are_together _ c.args.shares.items _ c.committed.ensures.sound
+          (subst (λ (seats : List SeatState). Gathers seats c.in_ok-pool.pool) c.in_ok-seats.ensures.seats
+          c.in_ok-pool.ensures.gathered)
+          c.requires.stand.manned c.in_ok-seats.ensures.loaders c.in_ok-seats.ensures.named;
+    };
+    history = subst (λ (seats : List SeatState). IsHistory c.args.shared.first seats c.in_ok-pool.pool)
+        c.in_ok-seats.ensures.seats c.in_ok-pool.ensures.history;
+    here = λ place apart at share name found goes.
+        sym (views_gathered place c.args.shares.items c.in_ok-seats.loaders c.in_ok-seats.ensures.loaders apart at share
+        name found goes);
   };
-  history = subst (λ (seats : List SeatState). IsHistory c.args.shared.first seats c.in_ok-pool.pool)
-      c.in_ok-seats.ensures.seats c.in_ok-pool.ensures.history;
-  here = λ place apart at share name found goes.
-      sym (views_gathered place c.args.shares.items c.in_ok-seats.loaders c.in_ok-seats.ensures.loaders apart at share name
-      found goes);
+  used = ap used_words_of c.from_parts.ensures.machine ∙ used_machine c.in_ok-pool.pool c.in_ok-seats.loaders
+      ∙ used_gathered c.args.shares.items c.in_ok-seats.loaders c.in_ok-seats.ensures.loaders;
 }

@@ -10,10 +10,12 @@ returns g c =
     answered c.args.pool.now c.args.loaders.now c.args.step c.serve.result c.serve.new.source c.serve.new.loaders
     c.requires c.serve.ensures in record {
       lock = its.made.lock;
-      manned = its.manned;
-      own = its.own;
-      others = its.rest;
-      purge = its.purge;
+      answered = record {
+        manned = its.manned;
+        own = its.own;
+        others = its.rest;
+        purge = its.purge;
+      };
       made = its.made;
       touches = its.touches;
       used = its.used;

@@ -10,7 +10,7 @@ pub returns-then-rise-ne0-clause-moved : goal.returns-then-rise-ne0-clause-moved
 returns-then-rise-ne0-clause-moved g c =
     let sum =
     used_moved c.args.loaders.now c.answer-reply.new.loaders (loader_of c.args.step) c.args.name c.requires.names
-    c.requires.manned.names c.answer-reply.ensures.manned.names c.answer-reply.ensures.others in
+    c.requires.manned.names c.answer-reply.ensures.answered.manned.names c.answer-reply.ensures.answered.others in
     moved_up c.args.seat.now c.add.new.seat (used_in c.args.loaders.now) (used_in c.answer-reply.new.loaders)
     c.used_by-before.result c.used_by.result
     c.used_by-before.type_inv (omega (arith, sum, c.used_by-before.ensures, c.used_by.ensures)) c.add.ensures
@@ -19,7 +19,7 @@ pub returns-else-rise-ne0-clause-moved : goal.returns-else-rise-ne0-clause-moved
 returns-else-rise-ne0-clause-moved g c =
     let sum =
     used_moved c.args.loaders.now c.answer-reply.new.loaders (loader_of c.args.step) c.args.name c.requires.names
-    c.requires.manned.names c.answer-reply.ensures.manned.names c.answer-reply.ensures.others in
+    c.requires.manned.names c.answer-reply.ensures.answered.manned.names c.answer-reply.ensures.answered.others in
     let same : used_in c.answer-reply.new.loaders ≡ used_in c.args.loaders.now = omega (
       arith,
       sum,

@@ -1,9 +1,8 @@
-use Rattle.std.proofs.Common.{◌≡◌, length, ◌-◌}
+use Rattle.std.proofs.Common.{true, length, ◌-◌}
 use Rattle.std.specs.List.{All}
-use Rattle.ms_base.specs.Good.{IsGood}
 use Rattle.ms_base.specs.State.{empty_machine, limits_of}
-use Rattle.ms_run.specs.Metering.{used_words_of}
-use Rattle.ms_run.specs.Replay.{AreKept, IsDetailed}
+use Rattle.ms_run.specs.Counting.{IsCounted}
+use Rattle.ms_run.specs.Replay.{IsDetailed}
 use Rattle.ms_run.specs.Sink.{Puts}
 use Rattle.ms_run.proofs.replays.ReplayLemmas.{PhasesFirst}
 use Rattle.ms_run.proofs.replaying.answer_phases.Given as goal
@@ -13,11 +12,9 @@ use Rattle.ms_run.proofs.replaying.answer_phases.Given as goal
 abbrev pub invariant-loop-at : goal.invariant-loop-at
 invariant-loop-at g l = record {
   phases : Puts g.S.AnswerSink.took (λ answers.
-      PhasesFirst l.fn.settings.workers (empty_machine (limits_of l.fn.settings)) l.lines l.at answers l.run l.turn
-      × All (IsDetailed l.fn.detail) answers) l.fn.sink l.sink;
-  good : IsGood l.run.system;
-  used : l.run.used ≡ used_words_of l.run.system;
-  kept : AreKept l.fn.detail l.run.peaks;
+      PhasesFirst (g.G.Gate.told l.manner.gate.now) l.fn.settings.workers (empty_machine (limits_of l.fn.settings)) l.lines l.at answers l.run l.turn
+      × All (IsDetailed l.manner.detail) answers) l.fn.sink l.sink;
+  counted : IsCounted true l.manner.detail l.run;
 }
 
 abbrev pub decreases-loop-at : goal.decreases-loop-at

@@ -4,6 +4,8 @@ use Rattle.ms_base.specs.State.{empty_machine, limits_of}
 use Rattle.ms_trace.specs.declared.trace.Line.{Line}
 use Rattle.ms_run.specs.Course.{begun}
 use Rattle.ms_run.specs.Replay.{Answers, IsReplay}
+use Rattle.ms_run.specs.Gating.{AreGatedByTurn}
+use Rattle.ms_run.proofs.GateLemmas.{one_worker_gated}
 use Rattle.ms_run.proofs.replays.ReplayLemmas.{alone_replays}
 use Rattle.ms_run.proofs.replaying.replay_into.Goals as goal
 
@@ -22,7 +24,7 @@ returns-then-settings-ne1-clause-answers g c = on_ok_weaker c.take_turns.result 
 
 pub returns-clause-answers : goal.returns-clause-answers
 returns-clause-answers g c =
-    let told = c.in_ok-answer_alone.ensures in (
+    let told = c.in_ok-answer_alone.ensures.answers in (
       told.0,
       told.1,
       record {
@@ -36,3 +38,14 @@ returns-clause-answers g c =
         detailed = told.2.2;
       },
     )
+
+pub returns-then-settings-ne1-clause-gated : goal.returns-then-settings-ne1-clause-gated
+returns-then-settings-ne1-clause-gated g c =
+    on_ok_weaker c.take_turns.result (λ gated.
+    subst (AreGatedByTurn (g.G.Gate.told c.args.gate.now) c.args.settings.workers) c.as_slice-lines.ensures gated)
+    c.take_turns.ensures.gated
+
+pub returns-clause-gated : goal.returns-clause-gated
+returns-clause-gated g c =
+    one_worker_gated (g.G.Gate.told c.args.gate.now) c.args.settings.workers _ c.args.trace.now.lines
+    (let one = c.if-settings-ne1.false in omega (arith, one)) c.as_slice-lines.ensures c.in_ok-answer_alone.ensures.gated

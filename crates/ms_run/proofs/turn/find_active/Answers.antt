@@ -18,7 +18,7 @@ loop-line-preserved c =
       | in-Step w ↦ rw (w.active-is, w.places-is) (
         w.add_active.ensures.room,
         found_step c.args.first.now c.args.phase c.args.workers c.args.lines.now c.loop-line.line-index _ _ _ _ _
-            c.loop-line.active.items c.loop-line.places _ _ c.requires.some c.requires.few c.loop-line-test.true
+            c.loop-line.active.items c.loop-line.places _ _ (omega (arith, c.requires.phase)) c.requires.few c.loop-line-test.true
             (omega (arith, found.few, c.if-len-workers.false, c.len.ensures, c.loop-line.active.ok.0)) found
             c.line-item.is (sym c.command.ensures ∙ w.in-Step.is) w.loader_named.ensures w.worker_at-worker.ensures
             w.add_active.ensures.added,
@@ -34,7 +34,7 @@ loop-line-preserved c =
 pub returns-then-len-workers-clause-shares : goal.returns-then-len-workers-clause-shares
 returns-then-len-workers-clause-shares c =
     found_full c.args.first.now c.args.phase c.args.workers c.args.lines.now _ c.loop-line.active.items c.loop-line.places
-    c.requires.some c.loop-line.invariant.1
+    (omega (arith, c.requires.phase)) c.loop-line.invariant.1
     (omega (arith, c.if-len-workers.true, c.len.ensures, c.loop-line.active.ok.0))
 
 pub returns-else-is_empty-clause-shares : goal.returns-else-is_empty-clause-shares

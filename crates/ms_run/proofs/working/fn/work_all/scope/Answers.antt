@@ -1,12 +1,15 @@
-use Rattle.std.proofs.Common.{rules, ◌≡◌, List, length, map, ap, ◌∙◌, subst, arith}
+use Rattle.std.proofs.Common.{rules, ◌≡◌, List, length, map, ap, ◌∙◌, subst, sym, arith}
+use Rattle.std.specs.List.{All}
+use Rattle.std.proofs.lemmas.List.Elements.{All-push}
 use denote.Param.Send.{sendable, param_send, arg_send}
 use denote.Exit.{no}
 use denote.Ref.{NamedLft}
 use mir.Syntax.{named}
 use Rattle.std.specs.Vec.Iter.{into_iter_items}
 use Rattle.ms_run.specs.declared.share.Share.{Share}
+use Rattle.ms_run.specs.Gating.{AreTasksGated}
 use Rattle.ms_run.specs.Shares.{AllWorked}
-use Rattle.ms_run.proofs.sharing.ThreadLemmas.{share_send, handed_send, one_more, fewer_ready, only, all_worked}
+use Rattle.ms_run.proofs.sharing.ThreadLemmas.{share_send, handed_send, one_more, fewer_ready, only, all_kept, all_worked}
 use Rattle.ms_run.proofs.working.fn.work_all.scope.Goals as goal
 
 pub spawn_with-started-requires-send-F : goal.spawn_with-started-requires-send-F
@@ -39,11 +42,14 @@ loop-share-preserved g c =
     let same = inv.2 in
     let room = inv.3 in
     let there = ap length step.0 in (
-      one_more (λ handle. handle.promise.0.value) _ _ c.in-Ok.handle c.in-Some.share _ _ _ items step.0
-          (ap (λ promise. promise.0.value) c.in-Ok.ensures.ok ∙ c.of.ensures) inv.0,
+      one_more (λ handle. handle.promise.share.value) _ _ c.in-Ok.handle c.in-Some.share _ _ _ items step.0
+          (ap (λ promise. promise.share.value) c.in-Ok.ensures.ok ∙ c.of.ensures) inv.0,
       fewer_ready _ c.captures.meter.now c.in-Some.share _ _ step.0 inv.1,
       omega arith,
       omega arith,
+      subst (All (λ handle. handle.promise.gate.value ≡ c.captures.gate.now)) (sym items)
+          (All-push (λ handle. handle.promise.gate.value ≡ c.captures.gate.now) c.loop-share.handles.items c.in-Ok.handle
+          inv.4 (ap (λ promise. promise.gate.value) c.in-Ok.ensures.ok ∙ c.of-in-loop-share.ensures)),
     )
 
 pub returns-in-Ok-join_promised : goal.returns-in-Ok-join_promised
@@ -59,11 +65,35 @@ returns-in-Ok-join_promised g c = record {
       let made = c.in-Ok-join_promised.done.ok in
       let held = c.loop-share.handles.ok in
       let none : length (into_iter_items c.loop-share.share-iterator) ≡ 0 = omega arith in
-      let all : map (λ handle. handle.promise.0.value) c.loop-share.handles.items ≡ c.captures.shares.items =
+      let all : map (λ handle. handle.promise.share.value) c.loop-share.handles.items ≡ c.captures.shares.items =
       only _ _ _ none inv.0 ∙ given.0 in
       subst (λ (shares : List Share). AllWorked shares c.in-Ok-join_promised.done.items) all
-      (all_worked (λ handle. handle.promise.0.value) c.loop-share.handles.items c.in-Ok-join_promised.done.items
+      (all_worked (λ handle. handle.promise.share.value) c.loop-share.handles.items c.in-Ok-join_promised.done.items
       (omega arith)
-      (λ i d below. let kept = (each i d (omega arith)).1 in (kept.handle, kept.handle_is, kept.kept)));
+      (λ i d below. let kept = (each i d (omega arith)).1 in (kept.handle, kept.handle_is, kept.kept.0)));
+  gated =
+      let inv = c.loop-share.invariant in
+      let given = c.into_iter-share-iterator.ensures.into_iter_gives in
+      let ended = c.in-None.ensures.steps in
+      let gone = ended.0 in
+      let len = c.in-Ok-join_promised.ensures.len in
+      let each = c.in-Ok-join_promised.ensures.each in
+      let same = inv.2 in
+      let made = c.in-Ok-join_promised.done.ok in
+      let held = c.loop-share.handles.ok in
+      let none : length (into_iter_items c.loop-share.share-iterator) ≡ 0 = omega arith in
+      let all : map (λ handle. handle.promise.share.value) c.loop-share.handles.items ≡ c.captures.shares.items =
+      only _ _ _ none inv.0 ∙ given.0 in
+      let Gated : Share → Type 0 = λ share. AreTasksGated (g.G.Gate.told c.captures.gate.now) share.worker share.tasks.items in
+      subst (All Gated) all
+      (all_kept (λ handle. handle.promise.share.value) Gated c.loop-share.handles.items c.in-Ok-join_promised.done.items
+      (omega arith)
+      (λ i d below. let kept = (each i d (omega arith)).1 in (
+        kept.handle,
+        kept.handle_is,
+        subst (λ gate. AreTasksGated (g.G.Gate.told gate) kept.handle.promise.share.value.worker
+            kept.handle.promise.share.value.tasks.items)
+            (ap (λ handle. handle.promise.gate.value) kept.handle_is ∙ inv.4 i kept.handle (omega arith)) kept.kept.1,
+      )));
   wanting = tt;
 }

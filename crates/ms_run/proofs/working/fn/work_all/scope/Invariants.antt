@@ -7,8 +7,9 @@ use Rattle.ms_run.proofs.working.fn.work_all.scope.Given as goal
 abbrev pub invariant-loop-share : goal.invariant-loop-share
 invariant-loop-share g l =
     let rest = l.share-iterator in
-    (map (λ handle. handle.promise.0.value) l.handles.items ++ into_iter_items rest
+    (map (λ handle. handle.promise.share.value) l.handles.items ++ into_iter_items rest
     ≡ into_iter_items l.initial.share-iterator)
     × All (IsReadyFor l.shared.now l.meter.now) (into_iter_items rest)
     × (length (into_iter_items rest) ≡ into_iter_len rest)
     × (vec_len l.handles + into_iter_len rest ≤ vec_capacity l.handles)
+    × All (λ handle. handle.promise.gate.value ≡ l.gate.now) l.handles.items
