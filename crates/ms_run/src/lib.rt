@@ -31,8 +31,8 @@ mod working;
 
 pub use fault::RunFault;
 pub use gate::{Gate, NoGate};
-pub use ms_loaders::Detail;
 pub use ms_course::{Extent, Standing};
+pub use ms_loaders::Detail;
 pub use observer::Observer;
 pub use observing::replay_observed;
 pub use replaying::{replay, replay_detailed, replay_into};

@@ -138,8 +138,14 @@ fn moved(all: Amounts, before: Amounts, after: Amounts) -> Amounts
     Amounts {
         used: all.used.wrapping_add(after.used).wrapping_sub(before.used),
         live: all.live.wrapping_add(after.live).wrapping_sub(before.live),
-        class_used: all.class_used.wrapping_add(after.class_used).wrapping_sub(before.class_used),
-        class_live: all.class_live.wrapping_add(after.class_live).wrapping_sub(before.class_live),
+        class_used: all
+            .class_used
+            .wrapping_add(after.class_used)
+            .wrapping_sub(before.class_used),
+        class_live: all
+            .class_live
+            .wrapping_add(after.class_live)
+            .wrapping_sub(before.class_live),
     }
 }
 

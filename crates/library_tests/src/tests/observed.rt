@@ -85,11 +85,23 @@ fn wanted() -> [(u32, Reply, Standing); 8] {
     let freed = [2_097_152, 16_384, 30, 20];
     [
         (1, Reply::Ok, stands(no_class, no_class, 1)),
-        (2, Reply::At(0), stands([2_097_152, 8192, 10, 10], no_class, 1)),
-        (3, Reply::At(67_108_864), stands([2_097_152, 16_384, 30, 30], class, 1)),
+        (
+            2,
+            Reply::At(0),
+            stands([2_097_152, 8192, 10, 10], no_class, 1),
+        ),
+        (
+            3,
+            Reply::At(67_108_864),
+            stands([2_097_152, 16_384, 30, 30], class, 1),
+        ),
         (4, Reply::Ok, stands(freed, class, 1)),
         (5, Reply::Ok, stands(freed, class, 2)),
-        (6, Reply::Refused(Refusal::TooLarge), stands(freed, class, 2)),
+        (
+            6,
+            Reply::Refused(Refusal::TooLarge),
+            stands(freed, class, 2),
+        ),
         (7, Reply::Ok, stands(freed, class, 2)),
         (8, Reply::Ok, stands([2_097_152, 0, 0, 0], no_class, 1)),
     ]
