@@ -5,3 +5,4 @@ pub mod KindLemmas
 pub mod ReplyLemmas
 pub mod DoneLemmas
 mod SpaceLemmas
+mod RunColumnLemmas

@@ -2,20 +2,37 @@
 -- columns run together. Each is the contract of a function of `laws`.
 use Rattle.std.specs.Prelude.{◌≡◌, ℕ, ◌+◌, ◌≤◌, ◌<◌, ◌^◌, List, ◌∷◌, length}
 use Rattle.std.specs.Fmt.{decimal}
+use Rattle.std.specs.List.{All}
 use Rattle.ms_base.specs.declared.kind.Kind.{Kind}
 use Rattle.ms_base.specs.declared.kind.Space.{Space}
-use Rattle.ms_base.specs.Totals.{LoaderRow}
+use Rattle.ms_base.specs.declared.step.Reply.{Reply}
+use Rattle.ms_base.specs.Good.{IsGood}
+use Rattle.ms_base.specs.State.{Machine}
+use Rattle.ms_base.specs.Totals.{LoaderRow, space_sums}
 use Rattle.ms_loaders.specs.Details.{ArenaSums, LoaderSums}
 use Rattle.ms_report.specs.declared.kinds.KindTotals.{KindTotals}
 use Rattle.ms_report.specs.Kinds.{kind_table, kind_line}
 use Rattle.ms_report.specs.Holdings.{holding_table, holding_line}
 use Rattle.ms_report.specs.Layout.{number_line, right_in, table_line, header, level_table, level_texts, loader_table}
-use Rattle.ms_report.specs.Layout.{loader_texts}
+use Rattle.ms_report.specs.Layout.{loader_texts, space_rows}
+use Rattle.ms_report.specs.Refused.{refused_rows, refusals_of}
 
 -- A line of a label and a number has 26 bytes and a newline.
 abbrev pub NumbersLineUp : Type 0
 NumbersLineUp =
     (label : List ℕ) (number : ℕ) → length label ≤ 12 → number < 10 ^ 12 → length (number_line label number) ≡ 27
+
+-- The refusals of fewer than 10 to the 12th replies: each of their lines has 26 bytes and a newline.
+abbrev pub RefusalsLineUp : Type 0
+RefusalsLineUp =
+    (replies : List Reply) → length replies < 10 ^ 12
+    → All (λ (row : List ℕ × ℕ). length (number_line row.0 row.1) ≡ 27) (refused_rows (refusals_of replies))
+
+-- The eleven numbers of a space: so has each of their lines, whatever a machine went through.
+abbrev pub SpacesLineUp : Type 0
+SpacesLineUp =
+    (space : Space) (m : Machine) → IsGood m
+    → All (λ (row : List ℕ × ℕ). length (number_line row.0 row.1) ≡ 27) (space_rows (space_sums space m))
 
 -- The line of a level has 31 bytes and a newline, and so have the headings.
 abbrev pub LevelsLineUp : Type 0

@@ -3,10 +3,23 @@
 ghost use Rattle.ms_report.specs.LayoutLaws.{NumbersLineUp, LevelsLineUp, LoadersLineUp};
 ghost use Rattle.ms_report.specs.LayoutLaws.{ColumnsStandApart};
 ghost use Rattle.ms_report.specs.LayoutLaws.{HoldingsLineUp, KindsLineUp};
+ghost use Rattle.ms_report.specs.LayoutLaws.{RefusalsLineUp, SpacesLineUp};
 
 /// Each line of a label and a number below 10 to the 12th has 26 bytes and a newline.
 pub fn numbers_line_up()
     ensures { NumbersLineUp }
+{}
+
+/// After fewer than 10 to the 12th lines of a trace, each line of the refused ones has 26 bytes and
+/// a newline.
+pub fn refusals_line_up()
+    ensures { RefusalsLineUp }
+{}
+
+/// However many lines a trace has, each line of the eleven numbers of a space has 26 bytes and a
+/// newline.
+pub fn spaces_line_up()
+    ensures { SpacesLineUp }
 {}
 
 /// With at most 655360 chunks held and parts free, each line of a level is as long as the

@@ -1,7 +1,7 @@
 -- What a gate is told, line by line: of one worker's lines, of the lines of a phase dealt to shares,
 -- and phase by phase. For `alone`, `working`, `phase` and `replaying`.
-use Rattle.std.proofs.Common.{◌≡◌, ◌<◌, ◌≤◌, ◌+◌, ◌%◌, ◌-◌, ◌==◌, ℕ, suc, zero, Bool, true, false, cond, Some, None}
-use Rattle.std.proofs.Common.{Option, List, [], ◌∷◌, ◌++◌, length, take, get_or, slice_get, min, refl, sym, ap, ◌∙◌}
+use Rattle.std.proofs.Common.{◌≡◌, ◌<◌, ◌+◌, ◌-◌, ◌==◌, ℕ, suc, Bool, true, false, cond, Some, None}
+use Rattle.std.proofs.Common.{Option, List, [], ◌∷◌, ◌++◌, length, take, get_or, min, refl, sym, ap, ◌∙◌}
 use Rattle.std.proofs.Common.{subst, arith}
 use Rattle.std.specs.Prelude.{slice_index_or}
 use Rattle.std.specs.List.{All, AllByRecursion, filter}

@@ -4,7 +4,7 @@ use Rattle.std.proofs.Common.{◌≡◌, ◌<◌, ℕ, zero, suc, List, [], ◌�
 use Rattle.std.proofs.Common.{subst, arith}
 use Rattle.std.proofs.lemmas.List.{append-nil}
 use Rattle.std.specs.List.{All, AllByRecursion}
-use Rattle.std.proofs.lemmas.List.Elements.{All-from_recursion}
+use Rattle.std.proofs.lemmas.List.Elements.{All-from_recursion, All-push}
 use Rattle.ms_shared.specs.SeatView.{LockState}
 use Rattle.ms_shared.specs.MeterRule.{MeterState}
 use Rattle.ms_run.specs.declared.share.Share.{Share}
@@ -159,6 +159,11 @@ all_worked of (handle ∷ handles) (result ∷ done) same each =
       subst (λ h. IsWorked (of h) result) first.1 first.2,
       all_worked of handles done (omega arith) (λ i d below. each (suc i) d (omega arith)),
     )
+
+-- What is true of each thread so far, and of one more.
+pub one_more_kept : {H : Type 0} (P : H → Type 0) (old new : List H) (handle : H) → new ≡ old ++ handle ∷ [] → All P old
+    → P handle → All P new
+one_more_kept P old new handle is kept one = subst (All P) (sym is) (All-push P old handle kept one)
 
 -- And what each thread keeps of its own share is true of all.
 shares_keep : {H : Type 0} (of : H → Share) (Kept : Share → Type 0) (handles : List H) (done : List Share)

@@ -1,6 +1,5 @@
-use Rattle.std.proofs.Common.{rules, ◌≡◌, List, length, map, ap, ◌∙◌, subst, sym, arith}
+use Rattle.std.proofs.Common.{rules, ◌≡◌, List, length, map, ap, ◌∙◌, subst, arith}
 use Rattle.std.specs.List.{All}
-use Rattle.std.proofs.lemmas.List.Elements.{All-push}
 use denote.Param.Send.{sendable, param_send, arg_send}
 use denote.Exit.{no}
 use denote.Ref.{NamedLft}
@@ -9,7 +8,7 @@ use Rattle.std.specs.Vec.Iter.{into_iter_items}
 use Rattle.ms_run.specs.declared.share.Share.{Share}
 use Rattle.ms_run.specs.Gating.{AreTasksGated}
 use Rattle.ms_run.specs.Shares.{AllWorked}
-use Rattle.ms_run.proofs.sharing.ThreadLemmas.{share_send, handed_send, one_more, fewer_ready, only, all_kept, all_worked}
+use Rattle.ms_run.proofs.sharing.ThreadLemmas.{share_send, handed_send, one_more, one_more_kept, fewer_ready, only, all_kept, all_worked}
 use Rattle.ms_run.proofs.working.fn.work_all.scope.Goals as goal
 
 pub spawn_with-started-requires-send-F : goal.spawn_with-started-requires-send-F
@@ -47,9 +46,8 @@ loop-share-preserved g c =
       fewer_ready _ c.captures.meter.now c.in-Some.share _ _ step.0 inv.1,
       omega arith,
       omega arith,
-      subst (All (λ handle. handle.promise.gate.value ≡ c.captures.gate.now)) (sym items)
-          (All-push (λ handle. handle.promise.gate.value ≡ c.captures.gate.now) c.loop-share.handles.items c.in-Ok.handle
-          inv.4 (ap (λ promise. promise.gate.value) c.in-Ok.ensures.ok ∙ c.of-in-loop-share.ensures)),
+      one_more_kept (λ handle. handle.promise.gate.value ≡ c.captures.gate.now) _ _ c.in-Ok.handle items inv.4
+          (ap (λ promise. promise.gate.value) c.in-Ok.ensures.ok ∙ c.of-in-loop-share.ensures),
     )
 
 pub returns-in-Ok-join_promised : goal.returns-in-Ok-join_promised
