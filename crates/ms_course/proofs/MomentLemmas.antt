@@ -7,7 +7,7 @@ use Rattle.std.proofs.lemmas.List.Sums.{sum_by-append, sum_by-cons}
 use Rattle.ms_course.specs.declared.standing.Extent.{Extent}
 use Rattle.ms_course.specs.declared.moment.Deed.{Deed}
 use Rattle.ms_course.specs.declared.moment.Moment.{Moment}
-use Rattle.ms_course.specs.Course.{column_in, counted, first_line, greater_extent, greater_standing, is_refused, last_line}
+use Rattle.ms_course.specs.Course.{column_in, deed_in, last_asked, last_reply, counted, first_line, greater_extent, greater_standing, is_refused, last_line}
 use Rattle.ms_course.specs.Course.{last_of, most, most_of, most_words, purges, reports, unloads, with_moment}
 
 -- The most of an amount, with one moment more.
@@ -21,13 +21,13 @@ length_push : (moments : List Moment) (moment : Moment) → length (moments ++ m
 length_push moments moment = length-append moments (moment ∷ [])
 
 counted_push : (sort : Deed → Bool) (moments : List Moment) (moment : Moment)
-    → counted sort (moments ++ moment ∷ []) ≡ counted sort moments + cond (sort moment.deed) 1 0
+    → counted sort (moments ++ moment ∷ []) ≡ counted sort moments + cond (sort (deed_in moment)) 1 0
 counted_push sort moments moment =
-    sum_by-append (λ (m : Moment). cond (sort m.deed) 1 0) moments (moment ∷ [])
+    sum_by-append (λ (m : Moment). cond (sort (deed_in m)) 1 0) moments (moment ∷ [])
     ∙ ap (λ n. counted sort moments + n)
-    (sum_by-cons (λ (m : Moment). cond (sort m.deed) 1 0) moment [] ∙ omega arith)
+    (sum_by-cons (λ (m : Moment). cond (sort (deed_in m)) 1 0) moment [] ∙ omega arith)
 
-first_push : (moments : List Moment) (moment : Moment)
+pub first_push : (moments : List Moment) (moment : Moment)
     → first_line (moments ++ moment ∷ []) ≡ (if length moments == 0 then moment.line else first_line moments)
 first_push [] moment = refl
 first_push (first ∷ moments) moment =
@@ -37,6 +37,16 @@ last_push : (moments : List Moment) (moment : Moment) → last_line (moments ++ 
 last_push [] moment = refl
 last_push (first ∷ []) moment = refl
 last_push (first ∷ next ∷ moments) moment = last_push (next ∷ moments) moment
+
+asked_push : (moments : List Moment) (moment : Moment) → last_asked (moments ++ moment ∷ []) ≡ Some moment.asked
+asked_push [] moment = refl
+asked_push (first ∷ []) moment = refl
+asked_push (first ∷ next ∷ moments) moment = asked_push (next ∷ moments) moment
+
+reply_push : (moments : List Moment) (moment : Moment) → last_reply (moments ++ moment ∷ []) ≡ Some moment.reply
+reply_push [] moment = refl
+reply_push (first ∷ []) moment = refl
+reply_push (first ∷ next ∷ moments) moment = reply_push (next ∷ moments) moment
 
 pub last_of_push : (moments : List Moment) (moment : Moment) → last_of (moments ++ moment ∷ []) ≡ Some moment
 last_of_push [] moment = refl
@@ -72,4 +82,6 @@ column_push moments moment = λ i. record {
   purges = counted_push purges moments moment i;
   refusals = counted_push is_refused moments moment i;
   reports = counted_push reports moments moment i;
+  asked = asked_push moments moment i;
+  reply = reply_push moments moment i;
 }

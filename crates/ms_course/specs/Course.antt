@@ -11,6 +11,8 @@ use Rattle.ms_course.specs.declared.standing.Extent.{Extent}
 use Rattle.ms_course.specs.declared.standing.Standing.{Standing}
 use Rattle.ms_course.specs.declared.moment.Deed.{Deed}
 use Rattle.ms_course.specs.declared.moment.Deed.TheVariants.{Unload, Purge, Refusal, Report, Other}
+use Rattle.ms_course.specs.declared.moment.Asked.{Asked}
+use Rattle.ms_course.specs.declared.moment.Asked.TheVariants.{Step as Asks, Sync, Report as AsksReport}
 use Rattle.ms_course.specs.declared.moment.Moment.{Moment}
 use Rattle.ms_course.specs.declared.column.Column.{Column}
 
@@ -20,6 +22,15 @@ deed_of step (Refused refusal) = Refusal
 deed_of (AsksUnload loader) reply = Unload
 deed_of AsksPurge reply = Purge
 deed_of step reply = Other
+
+-- What a line did, by what it asked and how it was answered.
+abbrev pub deed_asked : Asked → Reply → Deed
+deed_asked (Asks step) reply = deed_of step reply
+deed_asked Sync reply = Other
+deed_asked AsksReport reply = Report
+
+abbrev pub deed_in : Moment → Deed
+deed_in moment = deed_asked moment.asked moment.reply
 
 -- Which deeds a column counts, each by itself.
 abbrev pub unloads : Deed → Bool
@@ -40,7 +51,7 @@ reports deed = false
 
 -- How many moments are of a sort of deeds.
 abbrev pub counted : (Deed → Bool) → List Moment → ℕ
-counted sort moments = count_by (λ (moment : Moment). sort moment.deed) moments
+counted sort moments = count_by (λ (moment : Moment). sort (deed_in moment)) moments
 
 -- A run of so many lines has so many columns.
 abbrev pub column_count : ℕ → ℕ
@@ -87,6 +98,17 @@ last_line [] = 0
 last_line (moment ∷ []) = moment.line
 last_line (moment ∷ next ∷ moments) = last_line (next ∷ moments)
 
+-- What the last line asked, and how it was answered.
+abbrev pub last_asked : List Moment → Option Asked
+last_asked [] = None
+last_asked (moment ∷ []) = Some moment.asked
+last_asked (moment ∷ next ∷ moments) = last_asked (next ∷ moments)
+
+abbrev pub last_reply : List Moment → Option Reply
+last_reply [] = None
+last_reply (moment ∷ []) = Some moment.reply
+last_reply (moment ∷ next ∷ moments) = last_reply (next ∷ moments)
+
 -- What a column shows of its moments.
 abbrev pub column_in : List Moment → Column
 column_in moments = record {
@@ -98,6 +120,8 @@ column_in moments = record {
   purges = counted purges moments;
   refusals = counted is_refused moments;
   reports = counted reports moments;
+  asked = last_asked moments;
+  reply = last_reply moments;
 }
 
 -- A column with one moment more, part by part.
@@ -125,11 +149,13 @@ with_deed column deed = record column {
 }
 
 abbrev pub with_moment : Column → Moment → Column
-with_moment column moment = record (with_deed column moment.deed) {
+with_moment column moment = record (with_deed column (deed_in moment)) {
   lines = column.lines + 1;
   first_line = if column.lines == 0 then moment.line else column.first_line;
   last_line = moment.line;
   most = greater_standing column.most moment.standing;
+  asked = Some moment.asked;
+  reply = Some moment.reply;
 }
 
 -- The last of some moments.

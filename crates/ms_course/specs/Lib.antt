@@ -1,4 +1,5 @@
 pub mod Course
+pub mod Gathering
 pub mod Standing
 pub mod Fewness
 pub mod Laws

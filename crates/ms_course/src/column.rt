@@ -6,8 +6,9 @@ ghost use Rattle.std.specs.Prelude.{◌≡◌, ◌+◌, ◌-◌, ◌^◌, ℕ};
 ghost use Rattle.ms_course.specs.Course.{with_deed, with_moment, greater_extent, greater_standing};
 ghost use Rattle.ms_course.specs.Fewness.{AreFew};
 
-use crate::moment::{Deed, Moment};
+use crate::moment::{Asked, Deed, Moment};
 use crate::standing::{Extent, Standing};
+use ms_base::Reply;
 
 /// What some lines in a row had at most, each number by itself, and how many of them did what. This
 /// project's choice.
@@ -29,6 +30,10 @@ pub struct Column {
     pub refusals: u32,
     /// Reports.
     pub reports: u32,
+    /// What the last line asked, where there is one.
+    pub asked: Option<Asked>,
+    /// How it was answered.
+    pub reply: Option<Reply>,
 }
 
 impl Column {
@@ -42,6 +47,8 @@ impl Column {
         purges: 0,
         refusals: 0,
         reports: 0,
+        asked: None,
+        reply: None,
     };
 }
 
@@ -51,13 +58,15 @@ pub(crate) fn add(column: &mut Column, moment: &Moment)
     ensures shown { column.new ≡ with_moment column.old moment.now }
     ensures few { (count : ℕ) → AreFew count column.old → AreFew (count + 1) column.new }
 {
-    count(column, moment.deed);
+    count(column, moment.asked.deed(&moment.reply));
     if column.lines == 0 {
         column.first_line = moment.line;
     }
     column.last_line = moment.line;
     column.lines += 1;
     column.most = greater(&column.most, &moment.standing);
+    column.asked = Some(moment.asked);
+    column.reply = Some(moment.reply);
 }
 
 /// Counts what one line more did.

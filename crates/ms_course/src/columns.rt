@@ -1,5 +1,5 @@
 //! The columns of a course, filled as lines are answered.
-ghost use Rattle.std.specs.Prelude.{◌≡◌, ◌+◌, ◌<◌, ◌++◌, ◌∷◌, [], List, IfOk};
+ghost use Rattle.std.specs.Prelude.{◌≡◌, ◌+◌, ◌≤◌, ◌<◌, ◌++◌, ◌∷◌, [], List, IfOk, min};
 ghost use Rattle.ms_course.specs.Course.{ColumnsView, Shows, column_of, column_count};
 ghost use Rattle.ms_course.specs.declared.moment.Moment.{Moment as MomentOf};
 
@@ -66,6 +66,7 @@ impl Columns {
         ensures shown { (moments : List MomentOf) → Shows self.old moments
             → Shows self.new (moments ++ moment ∷ []) }
         ensures lines { self.new.lines ≡ self.old.lines }
+        ensures answered { self.new.answered ≡ min (self.old.answered + 1) self.old.lines }
     {
         self.last = Some(moment);
         if self.answered == self.lines {
@@ -88,6 +89,14 @@ impl Columns {
         ensures { result ≡ self.now.last }
     {
         self.last
+    }
+
+    /// Returns how many of the lines were answered.
+    pub fn answered(&self) -> u32
+        ensures answered { result ≡ self.now.answered }
+        ensures within { result ≤ self.now.lines }
+    {
+        self.answered
     }
 
     /// Returns how many lines the run has.

@@ -8,17 +8,30 @@
 //! each number is the most within its column, so that no peak is lost, and a column's live words are
 //! at most its used ones, these at most its committed and reserved ones. Apart because two forms
 //! stand on it, and it needs no system: whoever runs lines says how it stands after each. Stands on
-//! `ms_base` alone. Only `Columns::new` takes memory, the same for every run of 512 lines or more;
-//! nothing waits. The columns are this project's choice.
+//! `ms_base` alone. What takes memory: `Columns::new` and `Course::new`, the same for every run of 512
+//! lines or more, and `Course::push`, an entry for each loader. Nothing waits. The columns are this
+//! project's choice.
 #![tactic(auto)]
 
+mod births;
 mod column;
 mod columns;
+mod course;
 pub mod laws;
 mod moment;
+mod reason;
+mod refusals;
+mod schedule;
 mod standing;
+mod stretch;
 
+pub use births::Birth;
 pub use column::Column;
-pub use columns::Columns;
-pub use moment::{Deed, Moment};
+pub use columns::{Columns, column_for};
+pub use course::{Course, LoaderThen};
+pub use moment::{Asked, Deed, Moment};
+pub use reason::Reason;
+pub use refusals::Refused;
+pub use schedule::Schedule;
 pub use standing::{Extent, Standing};
+pub use stretch::Stretch;

@@ -1,6 +1,6 @@
 //! One moment of a run: a line was answered.
 ghost use Rattle.std.specs.Prelude.{◌≡◌};
-ghost use Rattle.ms_course.specs.Course.{deed_of};
+ghost use Rattle.ms_course.specs.Course.{deed_asked, deed_of};
 
 use crate::standing::Standing;
 use ms_base::{Reply, Step};
@@ -34,14 +34,40 @@ impl Deed {
     }
 }
 
+/// What a line asks. This project's choice.
+#[derive(Clone, Copy, Debug, PartialEq, Eq)]
+pub enum Asked {
+    /// A step of the machine.
+    Step(Step),
+    /// That all workers meet.
+    Sync,
+    /// A report.
+    Report,
+}
+
+impl Asked {
+    /// Names what a line did that asked this, by its reply.
+    pub fn deed(&self, reply: &Reply) -> Deed
+        ensures { result ≡ deed_asked self.now reply.now }
+    {
+        match self {
+            Asked::Step(step) => Deed::of_step(step, reply),
+            Asked::Sync => Deed::Other,
+            Asked::Report => Deed::Report,
+        }
+    }
+}
+
 /// One moment of a run: a line was answered, and the metaspace stands so after it. This project's
 /// choice.
 #[derive(Clone, Copy, Debug, PartialEq, Eq)]
 pub struct Moment {
     /// The number of the line, from 1 on.
     pub line: u32,
-    /// What the line did.
-    pub deed: Deed,
+    /// What the line asks.
+    pub asked: Asked,
+    /// How it was answered; `Ok` where it asks for no step.
+    pub reply: Reply,
     /// How the metaspace stands after it.
     pub standing: Standing,
 }

@@ -1,7 +1,8 @@
 use Rattle.std.proofs.Common.{◌∙◌, sym, subst, arith, ap}
 use Rattle.ms_course.specs.declared.column.Column.{Column}
 use Rattle.ms_course.specs.Course.{ColumnsView, Shows, with_moment}
-use Rattle.ms_course.proofs.ShowsLemmas.{shows_next, shows_past}
+use Rattle.ms_course.specs.Fewness.{AreFew}
+use Rattle.ms_course.proofs.ShowsLemmas.{filled, shows_next, shows_past}
 use Rattle.ms_course.proofs.columns.Columns.push.Goals as goal
 
 pub returns-then-self-clause-shown : goal.returns-then-self-clause-shown
@@ -18,3 +19,13 @@ returns-clause-shown c = λ moments its.
     (omega (arith, c.self.invariant.within, c.if-self.false)) c.column_for-place.ensures.column
     c.column_for-place.ensures.within
     (c.add.ensures.shown ∙ ap (λ (old : Column). with_moment old c.args.moment) c.index_mut.ensures.value)
+
+pub invariant_of-self-2 : goal.invariant_of-self-2
+invariant_of-self-2 c =
+    let was = c.self.inside in
+    filled was.lines was.answered c.column_for-place.result was.columns.items c.add.new.column c.self.invariant
+    (omega (arith, c.self.invariant.within, c.if-self.false))
+    (c.add.ensures.few was.answered
+    (subst (λ (old : Column). AreFew was.answered old) (sym c.index_mut.ensures.value)
+    (c.self.invariant.few c.column_for-place.result c.index_mut.result.now
+    (omega (arith, c.column_for-place.ensures.within, c.self.invariant.count)))))
