@@ -20,7 +20,7 @@ use Rattle.ms_report.specs.ReplyLines.{answer_text, answers_text, later_text, re
 use Rattle.ms_report.specs.declared.refused.Refusals.{Refusals}
 
 -- The refusals among replies, with one more.
-refusals_more : (before : List Reply) (reply : Reply)
+pub refusals_more : (before : List Reply) (reply : Reply)
     → refusals_of (before ++ reply ∷ []) ≡ with_reply (refusals_of before) reply
 refusals_more before reply =
     ap by_name (fun_ext (λ name. sum_by_push (λ (r : Reply). cond (is_refused_as name r) 1 0) before reply))
@@ -126,7 +126,7 @@ one_more name reply n bound less = at_most (is_refused_as name reply)
     at_most true = omega (arith, less)
     at_most false = omega (arith, less)
 
-counts_more : (bound : ℕ) (counts : Refusals) (reply : Reply) → AreFew bound counts
+pub counts_more : (bound : ℕ) (counts : Refusals) (reply : Reply) → AreFew bound counts
     → AreFew (bound + 1) (with_reply counts reply)
 counts_more bound counts reply few = record {
   loader_exists = one_more (codes "LoaderExists") reply counts.loader_exists bound few.loader_exists;

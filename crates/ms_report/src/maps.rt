@@ -78,8 +78,10 @@ fn push_root(text: &mut String, root: u32) -> Result<(), AllocError>
     line.push_to(text)
 }
 
-/// Appends the letters of places.
-fn push_letters(text: &mut String, places: &[Place]) -> Result<(), AllocError>
+/// Appends the letters of places, in their order: `-` free, `.` free and committed, `u` lent, `o` lent
+/// in part and committed, `O` lent as a whole and committed. Takes memory for the text; an error means
+/// that a growth was refused. This project's choice.
+pub fn push_letters(text: &mut String, places: &[Place]) -> Result<(), AllocError>
     ensures { OnOk result (string_bytes text.new
         ≡ string_bytes text.old ++ letters places.now) }
 {

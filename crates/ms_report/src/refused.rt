@@ -70,8 +70,8 @@ pub fn tally(answers: &[Answer]) -> Refusals
     refusals
 }
 
-/// Counts one more reply.
-pub(crate) fn count(counts: &mut Refusals, reply: Reply)
+/// Counts one more reply; a count has room for 2^63 more. Takes no memory. This project's choice.
+pub fn count(counts: &mut Refusals, reply: Reply)
     requires { AreFew (2 ^ 63) counts.old }
     ensures { counts.new ≡ with_reply counts.old reply }
 {

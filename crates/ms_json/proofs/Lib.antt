@@ -1,0 +1,4 @@
+pub mod WritingLemmas
+pub mod ChainLemmas
+pub mod RunLemmas
+pub mod DocumentLemmas

@@ -1,0 +1,5 @@
+pub mod Rows
+pub mod Leaves
+pub mod Sums
+pub mod Series
+pub mod Document
