@@ -7,6 +7,7 @@
 //! lock waits for it, and nothing else does.
 #![tactic(auto)]
 
+mod held_pool;
 mod lock_rule;
 mod locked_pool;
 mod meter_rule;
@@ -14,6 +15,7 @@ mod seat;
 mod shared_pool;
 mod used_meter;
 
+pub use held_pool::{HeldPool, HeldSeat};
 pub use lock_rule::{LimitsView, LockView, SeatView, TalliesView};
 pub use locked_pool::LockedPool;
 pub use meter_rule::MeterView;
