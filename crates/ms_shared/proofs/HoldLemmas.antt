@@ -1,6 +1,6 @@
 -- A seat that has the pool makes an event of each call, and puts the pool back with none more: both
 -- keep the rule of the lock. For `note`, `put_back` and the calls of HeldPool.
-use Rattle.std.proofs.Common.{◌≡◌, ℕ, ◌+◌, ◌-◌, ◌%◌, ◌^◌, ◌<◌, ◌≤◌, List, [], ◌++◌, zero, suc, length}
+use Rattle.std.proofs.Common.{◌≡◌, ℕ, ◌+◌, ◌-◌, ◌%◌, ◌^◌, ◌<◌, List, [], ◌++◌, zero, suc, length}
 use Rattle.std.proofs.Common.{◌∷◌, set, slice_index, sym, refl, ap, ◌∙◌, subst, arith, Option, Some, None}
 use Rattle.std.proofs.Common.{length-set, get_or-set_same, set-set}
 use Rattle.std.specs.List.{sum_by}
@@ -8,13 +8,11 @@ use mathlib.Core.Option.{Option as Home, some, none, some-ne-none}
 use lib.ListN.{get_elem?}
 use Rattle.atomic_table.specs.Table.{State, keeps, gives, Allows}
 use Rattle.atomic_table.proofs.Lists.{set_here}
-use Rattle.ms_base.specs.declared.kind.Space.{Space}
-use Rattle.ms_base.specs.declared.kind.Space.TheVariants.{NonClass, Class}
 use Rattle.std.specs.Prelude.{Result, Ok, Err, IfOk}
 use Rattle.ms_base.specs.declared.refusal.Refusal.{Refusal}
 use Rattle.ms_pool.specs.Account.{AccountState}
 use Rattle.ms_pool.specs.Source.{LeavesRest, ServesBoth}
-use Rattle.ms_pool.specs.Ledger.{Ledger, IsSoundLedger, opened_in}
+use Rattle.ms_pool.specs.Ledger.{Ledger, IsSoundLedger}
 use Rattle.atomic_table.specs.Seated.{TableId}
 use Rattle.ms_shared.specs.declared.lock_rule.SeatView.{SeatView}
 use Rattle.ms_shared.specs.declared.lock_rule.LockView.{LockView}
@@ -186,9 +184,6 @@ pub moves_held : (view : LockView) (before later : Ledger) → view.taken ≡ So
     → Moves view.knows (taken_of view) later
 moves_held view before later has moves =
     subst (λ (t : Option Ledger). Moves view.knows (some_pool t) later) (sym has) moves
-
-pub has_taken : (view : LockView) (before : Ledger) → view.taken ≡ Some before → view.taken ≡ Some (taken_of view)
-has_taken view before has = has ∙ ap (λ (t : Option Ledger). Some (some_pool t)) (sym has)
 
 -- The seat has the pool still, as it is then, and what it knows is true of that.
 pub still_held : (id lock : TableId) (view : LockView) (before later : Ledger) (end : Sat)

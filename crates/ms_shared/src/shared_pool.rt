@@ -278,7 +278,7 @@ impl SharedPool {
         ensures seat { seat.new.me ≡ (without_pool seat.old.me.0, []) }
     {
         let shared = &self.table.shared;
-        drop(shared.exchange(seat, 0, Some(pool)));
+        let _ = shared.exchange(seat, 0, Some(pool));
         shared.store::<PutsBack>(seat, 0, 0);
     }
 }

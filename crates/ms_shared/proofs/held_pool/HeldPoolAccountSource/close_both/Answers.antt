@@ -24,7 +24,7 @@ close_both-requires c =
 
 pub note-requires-clause-moves : goal.note-requires-clause-moves
 note-requires-clause-moves c =
-    let v = c.self.inside.seat.me.0 in 
+    let v = c.self.inside.seat.me.0 in
     let some =
     subst (λ (s : HeldState). (space : Space) → 0 < opened_by s.seat.knows space) (sym c.self.view_is) c.requires.counted
     in
@@ -40,7 +40,7 @@ note-requires-clause-moves c =
 pub invariant_of-self : goal.invariant_of-self
 invariant_of-self c =
     still_held _ _ _ _ c.close_both.new.self _ _ (c.note.ensures.own ∙ c.self.invariant.0) c.self.invariant.3 c.self.invariant.1 c.self.invariant.2 c.self.invariant.4
-      c.note.ensures.seat c.note.ensures.known c.self.invariant.5
+    c.note.ensures.seat c.note.ensures.known c.self.invariant.5
 
 pub returns : goal.returns
 returns c =
@@ -57,7 +57,8 @@ returns c =
           (well.others other differs too (served_by_pool _ _ other call.known its));
       counted = close_both_counts _ _ _ _ call _ _ c.requires.counted well;
       limits = limits_stay _ _ _ _ call;
-      closed =
-          (record { event = over_lock _ _ _ _ _ call closed; none = nothing.0; class_none = nothing.1 },
-          is_event _ _ _ c.self.view_is call);
+      closed = (
+        record { event = over_lock _ _ _ _ _ call closed; none = nothing.0; class_none = nothing.1 },
+        is_event _ _ _ c.self.view_is call,
+      );
     }

@@ -15,7 +15,7 @@ note-requires-clause-moves c =
 pub invariant_of-self : goal.invariant_of-self
 invariant_of-self c =
     still_held _ _ _ _ c.open_both-answer.new.self _ _ (c.note.ensures.own ∙ c.self.invariant.0) c.self.invariant.3 c.self.invariant.1 c.self.invariant.2 c.self.invariant.4
-      c.note.ensures.seat c.note.ensures.known c.self.invariant.5
+    c.note.ensures.seat c.note.ensures.known c.self.invariant.5
 
 pub returns : goal.returns
 returns c =
@@ -31,9 +31,12 @@ returns c =
       counted = open_both_counts _ _ _ _ call result opened;
       limits = limits_stay _ _ _ _ call;
       refused = both_opened_refusal _ result _ opened;
-      opened = (record {
-        event = over_lock _ _ _ _ _ call opened;
-        new_are = both_new_are _ result _ opened;
-        tallied = open_both_raises _ _ _ _ call result opened;
-      }, is_event _ _ _ c.self.view_is call);
+      opened = (
+        record {
+          event = over_lock _ _ _ _ _ call opened;
+          new_are = both_new_are _ result _ opened;
+          tallied = open_both_raises _ _ _ _ call result opened;
+        },
+        is_event _ _ _ c.self.view_is call,
+      );
     }

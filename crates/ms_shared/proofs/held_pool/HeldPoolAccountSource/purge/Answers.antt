@@ -17,7 +17,7 @@ note-requires-clause-moves c =
 pub invariant_of-self : goal.invariant_of-self
 invariant_of-self c =
     still_held _ _ _ _ c.purge-gone.new.self _ _ (c.note.ensures.own ∙ c.self.invariant.0) c.self.invariant.3 c.self.invariant.1 c.self.invariant.2 c.self.invariant.4
-      c.note.ensures.seat c.note.ensures.known c.self.invariant.5
+    c.note.ensures.seat c.note.ensures.known c.self.invariant.5
 
 pub returns : goal.returns
 returns c =
@@ -29,8 +29,11 @@ returns c =
           (purged_leaves_served _ _ c.purge-gone.new.self account purged (served_by_pool _ _ account call.known its));
       counted = counts_stay _ _ _ _ call (ap (λ (l : Ledger). opened_in l) purged.1);
       limits = limits_stay _ _ _ _ call;
-      purged = (record {
-        event = over_lock _ _ _ _ _ call purged;
-        tallies = tallies_kept _ _ _ _ call (ap (λ (l : Ledger). l.tallies) purged.1);
-      }, is_event _ _ _ c.self.view_is call);
+      purged = (
+        record {
+          event = over_lock _ _ _ _ _ call purged;
+          tallies = tallies_kept _ _ _ _ call (ap (λ (l : Ledger). l.tallies) purged.1);
+        },
+        is_event _ _ _ c.self.view_is call,
+      );
     }

@@ -14,7 +14,7 @@ close-requires-clause-served c =
 
 pub note-requires-clause-moves : goal.note-requires-clause-moves
 note-requires-clause-moves c =
-    let v = c.self.inside.seat.me.0 in 
+    let v = c.self.inside.seat.me.0 in
     let serves = subst (λ (s : HeldState). ServesBy s.seat.knows c.args.account) (sym c.self.view_is) c.requires.served in
     let some : 0 < opened_by v.knows c.args.account.space =
     subst (λ (s : HeldState). 0 < opened_by s.seat.knows c.args.account.space) (sym c.self.view_is) c.requires.counted in
@@ -28,11 +28,11 @@ note-requires-clause-moves c =
 pub invariant_of-self : goal.invariant_of-self
 invariant_of-self c =
     still_held _ _ _ _ c.close.new.self _ _ (c.note.ensures.own ∙ c.self.invariant.0) c.self.invariant.3 c.self.invariant.1 c.self.invariant.2 c.self.invariant.4
-      c.note.ensures.seat c.note.ensures.known c.self.invariant.5
+    c.note.ensures.seat c.note.ensures.known c.self.invariant.5
 
 pub returns : goal.returns
 returns c =
-    let v = c.self.inside.seat.me.0 in 
+    let v = c.self.inside.seat.me.0 in
     let call =
     is_held_call _ _ v _ c.self.inside.pool c.close.new.self _ _ c.self.invariant.4 (ap (λ (h : HeldState). h.seat) c.self.view_is) c.self.invariant.5 c.close.ensures.before c.close.ensures.after c.self.invariant.3 c.note.ensures.seat c.note.ensures.own in
     let some = c.requires.counted in let most = call.known.opened c.args.account.space in

@@ -31,7 +31,7 @@ note-requires-clause-moves c =
 pub invariant_of-self : goal.invariant_of-self
 invariant_of-self c =
     still_held _ _ _ _ c.grow-answer.new.self _ _ (c.note.ensures.own ∙ c.self.invariant.0) c.self.invariant.3 c.self.invariant.1 c.self.invariant.2 c.self.invariant.4
-      c.note.ensures.seat c.note.ensures.known c.self.invariant.5
+    c.note.ensures.seat c.note.ensures.known c.self.invariant.5
 
 pub returns : goal.returns
 returns c =
@@ -52,9 +52,12 @@ returns c =
       unchanged = e.unchanged;
       refused = grow_refusal _ _ _ _ _ result _ e.grew;
       holds = on_ok result _ e.holds;
-      grew = (record {
-        event = over_lock _ _ _ _ _ call e.grew;
-        tallies = grow_raises _ _ _ _ call _ _ _ _ result e.grew;
-        tells = grow_tells _ _ c.args.account.now _ _ _ result _ call.known.limits e.grew;
-      }, is_event _ _ _ c.self.view_is call);
+      grew = (
+        record {
+          event = over_lock _ _ _ _ _ call e.grew;
+          tallies = grow_raises _ _ _ _ call _ _ _ _ result e.grew;
+          tells = grow_tells _ _ c.args.account.now _ _ _ result _ call.known.limits e.grew;
+        },
+        is_event _ _ _ c.self.view_is call,
+      );
     }

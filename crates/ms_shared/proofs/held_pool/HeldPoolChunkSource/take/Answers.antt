@@ -29,7 +29,7 @@ note-requires-clause-moves c =
 pub invariant_of-self : goal.invariant_of-self
 invariant_of-self c =
     still_held _ _ _ _ c.take-answer.new.self _ _ (c.note.ensures.own ∙ c.self.invariant.0) c.self.invariant.3 c.self.invariant.1 c.self.invariant.2 c.self.invariant.4
-      c.note.ensures.seat c.note.ensures.known c.self.invariant.5
+    c.note.ensures.seat c.note.ensures.known c.self.invariant.5
 
 pub returns : goal.returns
 returns c =
@@ -52,9 +52,12 @@ returns c =
       unchanged = e.unchanged;
       refused = take_refusal _ _ _ _ _ result _ e.took;
       holds = on_ok result _ e.holds;
-      took = (record {
-        event = over_lock _ _ _ _ _ call e.took;
-        tallies = take_raises _ _ _ _ call _ _ _ _ result e.took;
-        tells = take_tells _ _ c.args.account.now _ _ _ result _ call.known.limits call.sound e.took;
-      }, is_event _ _ _ c.self.view_is call);
+      took = (
+        record {
+          event = over_lock _ _ _ _ _ call e.took;
+          tallies = take_raises _ _ _ _ call _ _ _ _ result e.took;
+          tells = take_tells _ _ c.args.account.now _ _ _ result _ call.known.limits call.sound e.took;
+        },
+        is_event _ _ _ c.self.view_is call,
+      );
     }
