@@ -7,9 +7,9 @@
 //!
 //! A call takes the pool out of its slot, calls it and puts it back. Kept true whenever the lock
 //! is free: each owner number given out is served by one seat, whose record of it is the pool's,
-//! and the pool's open accounts and tallies are the sums of the seats'. `new` takes memory. What
-//! takes the lock tries its word again until it has the pool. This project's choice; HotSpot has
-//! Metaspace_lock.
+//! and the pool's open accounts and tallies are the sums of the seats'. `new` takes memory.
+//! `try_hold` tries the lock's word once, a `LockedPool` again until it has the pool. This project's
+//! choice; HotSpot has Metaspace_lock.
 ghost use Rattle.std.specs.Prelude.{◌≡◌, ◌<◌, ◌≤◌, ◌↔◌, ◌∷◌, [], Some, None, IsOk, IfOk, IfErr, vec_len, length};
 ghost use Rattle.std.specs.Prelude.{IfSome, IfNone};
 ghost use Rattle.std.specs.List.{All};
