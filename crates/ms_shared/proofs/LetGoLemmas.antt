@@ -77,7 +77,7 @@ sum_raised false total' total tally old new sum is kept more =
     more refl ∙ ap (λ n. (n + 1) % 2 ^ 64) is ∙ mod_in total 1 (2 ^ 64)
     ∙ sym (mod_shift total' total tally 1 (2 ^ 64) sum)
 
-nobody_has : (views : List LockView) (seat : ℕ) (view : LockView) (taken : Ledger) → sum_by has_pool views ≡ 0
+pub nobody_has : (views : List LockView) (seat : ℕ) (view : LockView) (taken : Ledger) → sum_by has_pool views ≡ 0
     → get_elem? views seat ≡ some view
     → view.taken ≡ Some taken → ⊥
 nobody_has views seat view taken zero_all at has =
@@ -136,7 +136,7 @@ module _ (made : ℕ) (first : Ledger) (id : ℕ) (view : LockView) (live : 0 < 
       (moves.tallies kind))
 
   -- The seat puts the pool back.
-  put_back_now : (state : State (Option Ledger) LockView) (rule : IsLocked made first state)
+  pub put_back_now : (state : State (Option Ledger) LockView) (rule : IsLocked made first state)
       → get_elem? state.views id ≡ some view
       → IsLocked made first
       (record {
@@ -173,6 +173,11 @@ module _ (made : ℕ) (first : Ledger) (id : ℕ) (view : LockView) (live : 0 < 
         limits_are = moves.limits ∙ ap (λ (pool : Ledger). pool.limits) is ∙ rule.limits_are;
         parts = total_kept (λ (v : LockView). v.parts) state.views id view next refl at ∙ rule.parts;
       }
+
+  pub put_back_pool : (state : State (Option Ledger) LockView) (rule : IsLocked made first state)
+      (at : get_elem? state.views id ≡ some view) → (put_back_now state rule at).pool ≡ new
+  unfolding put_back_now
+  put_back_pool state rule at = refl
 
   lets_go : (slots : ℕ) → Allows (IsLocked made first) slots id (view, has_one new) 0 (λ _. 0)
       (λ _ n. (next : Ledger) → has_one new ≡ has_one next → n ≡ with_none (after view old next))

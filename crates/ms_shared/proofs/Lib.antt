@@ -13,6 +13,7 @@ pub mod MovesLemmas
 pub mod LockCallLemmas
 pub mod LockOpenLemmas
 pub mod OwnLemmas
+pub mod HoldLemmas
 pub mod LockCloseLemmas
 pub mod HandLemmas
 pub mod TellsLemmas

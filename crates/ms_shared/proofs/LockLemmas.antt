@@ -39,7 +39,7 @@ module _ (made : ℕ) (first : Ledger) where
 
   module _ (id : ℕ) (view : LockView) (live : 0 < view.parts) (idle : view.taken ≡ None) where
     -- The lock is free, and the seat takes the pool.
-    taken_now : (state : State (Option Ledger) LockView) (rule : IsLocked made first state)
+    pub taken_now : (state : State (Option Ledger) LockView) (rule : IsLocked made first state)
         → get_elem? state.views id ≡ some view
         → slice_index state.words 0 ≡ 0
         → IsLocked made first

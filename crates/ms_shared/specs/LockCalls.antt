@@ -22,7 +22,7 @@ use Rattle.ms_pool.specs.Tallies.{Tallies}
 use Rattle.ms_pool.specs.Calls.{Took, Grew, Closed, Totalled, OpenedBoth, ClosedBoth, Purged, new_account}
 use Rattle.ms_pool.specs.declared.totals.PoolTotals.{PoolTotals}
 use Rattle.ms_shared.specs.SeatView.{SeatState, ServesBy, opened_by, commit_of_take, reserve_of_take, commit_of_grow}
-use Rattle.ms_shared.specs.SeatView.{room_of_grow, ids_of_open, raise, OverLock}
+use Rattle.ms_shared.specs.SeatView.{room_of_grow, ids_of_open, raise, OverLock, HeldState, IsEvent}
 
 -- The tally that a refusal of `take` raises, and of `grow`; other answers raise none, and other
 -- refusals don't come.
@@ -125,3 +125,28 @@ pub record ClosedBothOver (old : SeatState) (account class_account : AccountStat
 pub record PurgedOver (old : SeatState) (gone : ℕ) (new : SeatState) : Type 0 where
   pub event : OverLock (λ before after. Purged before gone after) old new
   pub tallies : new.knows.tallies ≡ old.knows.tallies
+
+-- The same calls on a pool that the seat has: each is an event from the pool before to the pool
+-- after.
+abbrev pub TookHeld : HeldState → AccountState → ℕ → ℕ → ℕ → Result Span Refusal → HeldState → Type 0
+TookHeld old account wanted most words result new =
+    TookOver old.seat account wanted most words result new.seat × IsEvent old new
+
+abbrev pub GrewHeld : HeldState → AccountState → ℕ → ℕ → Bool → Result Span Refusal → HeldState → Type 0
+GrewHeld old account start total may_enlarge result new =
+    GrewOver old.seat account start total may_enlarge result new.seat × IsEvent old new
+
+abbrev pub ClosedHeld : HeldState → AccountState → HeldState → Type 0
+ClosedHeld old account new = ClosedOver old.seat account new.seat × IsEvent old new
+
+abbrev pub TotalledHeld : HeldState → AccountState → PoolTotals → HeldState → Type 0
+TotalledHeld old account totals new = TotalledOver old.seat account totals new.seat × IsEvent old new
+
+abbrev pub OpenedBothHeld : HeldState → Result (AccountState × AccountState) Refusal → HeldState → Type 0
+OpenedBothHeld old result new = OpenedBothOver old.seat result new.seat × IsEvent old new
+
+abbrev pub ClosedBothHeld : HeldState → AccountState → AccountState → HeldState → Type 0
+ClosedBothHeld old account class_account new = ClosedBothOver old.seat account class_account new.seat × IsEvent old new
+
+abbrev pub PurgedHeld : HeldState → ℕ → HeldState → Type 0
+PurgedHeld old gone new = PurgedOver old.seat gone new.seat × IsEvent old new

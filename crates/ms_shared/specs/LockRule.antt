@@ -140,6 +140,20 @@ abbrev pub LetsGo : Step (Option Ledger) → Sat → ℕ → Sat → Type 0
 LetsGo step old stored new =
     (pool : Ledger) → old.1 ≡ (0, Some pool) ∷ [] → new ≡ (after old.0 (taken_of old.0) pool, [])
 
+-- The seat still has the pool, which is another now: an event of its own.
+abbrev pub noted : LockView → Ledger → LockView
+noted view new = with_pool (after view (taken_of view) new) new
+
+abbrev pub Notes : Ledger → Step (Option Ledger) → Sat → ℕ → Sat → Type 0
+Notes pool step old found new = new ≡ (noted old.0 pool, old.1)
+
+-- The pool that the seat has is back in the slot, with no event more.
+abbrev pub without_pool : LockView → LockView
+without_pool view = record view { taken = None }
+
+abbrev pub PutsBack : Step (Option Ledger) → Sat → ℕ → Sat → Type 0
+PutsBack step old stored new = new ≡ (without_pool old.0, [])
+
 -- The first view, of all seats, and how it is cut: all that it knows goes with the first two parts
 -- and the first number.
 abbrev pub first_view : ℕ → Ledger → LockView

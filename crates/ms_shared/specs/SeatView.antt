@@ -170,6 +170,16 @@ seat_with id strand knows = record { id = id; number = strand.0; events = strand
 abbrev pub seat_of : TableId → LockView → SeatState
 seat_of id view = seat_with id (first_strand view.strands) view.knows
 
+-- A seat that has the pool, and the pool as it is now: what the seat knows is said of that.
+pub record HeldState : Type 0 where
+  pub seat : SeatState
+  pub pool : Ledger
+
+-- A call on a pool that the seat has is the seat's last event, from the pool before to the pool
+-- after.
+abbrev pub IsEvent : HeldState → HeldState → Type 0
+IsEvent old new = new.seat.events ≡ old.seat.events ++ (old.pool, new.pool) ∷ []
+
 -- The seats of a new lock, numbered from 0 on, with no event: the first knows all of the pool, the
 -- others know its limits alone.
 abbrev pub spare_seats : TableId → Limits → ℕ → ℕ → List SeatState

@@ -11,7 +11,7 @@
 //! plays, cuts and joins have no bytes and do nothing when they run. Nothing here takes memory or
 //! waits.
 ghost use Rattle.ms_shared.specs.LockRule.{IsLocked, Tries, LetsGo, first_view, own_seat, other_seats, both, nothing};
-ghost use Rattle.ms_shared.specs.LockRule.{view_without, note_of, less_part, spare_part};
+ghost use Rattle.ms_shared.specs.LockRule.{view_without, note_of, less_part, spare_part, Notes, PutsBack};
 
 use atomic_table::{Join, Play, Split, TableRule};
 use ms_base::{Chunk, Policy};
@@ -120,6 +120,36 @@ pub struct LetsGo;
 
 impl Play<Option<Pool>, LockView> for LetsGo {
     ghost then = { LetsGo };
+}
+
+/// Names the pool that a seat has once a call is made, where a proof picks it.
+pub trait Holding {
+    ghost use Rattle.ms_pool.specs.Ledger.{Ledger};
+
+    ghost pool: { Ledger };
+}
+
+impl Holding for Brand {
+    ghost use Rattle.ms_shared.specs.LockRule.{some_pool};
+    ghost use Rattle.std.specs.Prelude.{None};
+
+    ghost pool = { some_pool None };
+}
+
+// A call on the pool that the seat has is an event.
+pub struct Notes<B> {
+    pool: PhantomData<B>,
+}
+
+impl<B: Holding> Play<Option<Pool>, LockView> for Notes<B> {
+    ghost then = { Notes B.pool };
+}
+
+// The pool is put back as it was taken or last noted.
+pub struct PutsBack;
+
+impl Play<Option<Pool>, LockView> for PutsBack {
+    ghost then = { PutsBack };
 }
 
 // The seats that know nothing are cut off.

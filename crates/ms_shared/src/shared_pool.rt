@@ -7,18 +7,20 @@
 //!
 //! A call takes the pool out of its slot, calls it and puts it back. Kept true whenever the lock
 //! is free: each owner number given out is served by one seat, whose record of it is the pool's,
-//! and the pool's open accounts and tallies are the sums of the seats'. `new` takes memory. What
-//! takes the lock tries its word again until it has the pool. This project's choice; HotSpot has
-//! Metaspace_lock.
+//! and the pool's open accounts and tallies are the sums of the seats'. `new` takes memory.
+//! `try_hold` tries the lock's word once, a `LockedPool` again until it has the pool. This project's
+//! choice; HotSpot has Metaspace_lock.
 ghost use Rattle.std.specs.Prelude.{◌≡◌, ◌<◌, ◌≤◌, ◌↔◌, ◌∷◌, [], Some, None, IsOk, IfOk, IfErr, vec_len, length};
+ghost use Rattle.std.specs.Prelude.{IfSome, IfNone};
 ghost use Rattle.std.specs.List.{All};
 ghost use Rattle.ms_shared.specs.SeatView.{IsKnown, Gathers, IsHistory, ServesBy, HandsOn, opened_by, new_seats};
 ghost use Rattle.ms_shared.specs.SeatView.{without_account, with_account};
 ghost use Rattle.ms_shared.specs.LockRule.{Moves, IsWhole, after, with_pool, taken_of, both, view_without, note_of};
-ghost use Rattle.ms_shared.specs.LockRule.{less_part, spare_part};
+ghost use Rattle.ms_shared.specs.LockRule.{less_part, spare_part, noted, without_pool};
 
 use crate::lock_rule::{
-    CutAccount, CutPart, CutSeats, JoinViews, LetsGo, LockKey, LockView, Locked, Owner, Tries,
+    CutAccount, CutPart, CutSeats, Holding, JoinViews, LetsGo, LockKey, LockView, Locked, Notes,
+    Owner, PutsBack, Tries,
 };
 use crate::seat::PoolSeat;
 use atomic_table::{Refused, Seat, Table};
@@ -62,7 +64,7 @@ impl Model for SharedPool {
 }
 
 impl SharedPool {
-    /// Puts a pool behind a lock and makes its seats, 1 to 8 of them, numbered from 0 on and with
+    /// Puts a pool behind a lock and makes its seats, 1 to 65536 of them, numbered from 0 on and with
     /// no event. The first serves every owner number that was given out, counts all open accounts
     /// and has the pool's tallies; the others have nothing. Takes memory; where that is refused the
     /// pool is handed back. This project's choice.
@@ -72,7 +74,7 @@ impl SharedPool {
         seats: usize,
     ) -> Result<(SharedPool, Vec<PoolSeat>), (Refusal, Pool)>
         requires some { 1 ≤ seats }
-        requires few { seats ≤ 8 }
+        requires few { seats ≤ 65536 }
         ensures lock { IfOk result (λ made. made.0.seats ≡ seats) }
         ensures first { IfOk result (λ made. made.0.first ≡ pool) }
         ensures seats { IfOk result (λ made. made.1.items ≡ new_seats made.0.id seats pool) }
@@ -182,6 +184,27 @@ impl SharedPool {
         shared.join_seat::<JoinViews>(from, part);
     }
 
+    /// Takes the pool where no other seat has it; else answers `None`, and nothing changes. Tries
+    /// once, and does not wait.
+    pub(crate) fn try_seize(&self, seat: &mut Seat<Option<Pool>, LockView>) -> Option<Pool>
+        requires own { seat.old.table_id ≡ self.now.id }
+        requires slots { seat.old.me.1 ≡ [] }
+        requires live { 0 < seat.old.me.0.parts }
+        requires free { seat.old.me.0.taken ≡ None }
+        ensures own { seat.new.table_id ≡ seat.old.table_id }
+        ensures seat { IfSome result (λ pool. seat.new.me ≡ (with_pool seat.old.me.0 pool, (0, None) ∷ [])) }
+        ensures known { IfSome result (λ pool. IsKnown pool seat.old.me.0.knows) }
+        ensures busy { IfNone result (seat.new.me ≡ seat.old.me) }
+    {
+        let shared = &self.table.shared;
+        if shared.compare_exchange::<Tries>(seat, 0, 0, 1) == 0 {
+            let pool = shared.exchange(seat, 0, None).unwrap();
+            Some(pool)
+        } else {
+            None
+        }
+    }
+
     /// Takes the pool, once no other seat has it. Tries again until it has the pool.
     pub(crate) fn seize<R: Wait>(&self, rt: &R, seat: &mut Seat<Option<Pool>, LockView>) -> Pool
         requires own { seat.old.table_id ≡ self.now.id }
@@ -192,10 +215,9 @@ impl SharedPool {
         ensures seat { seat.new.me ≡ (with_pool seat.old.me.0 result, (0, None) ∷ []) }
         ensures known { IsKnown result seat.old.me.0.knows }
     {
-        let shared = &self.table.shared;
         for _ in rt.forever() {
-            if shared.compare_exchange::<Tries>(seat, 0, 0, 1) == 0 {
-                return shared.exchange(seat, 0, None).unwrap();
+            if let Some(pool) = self.try_seize(seat) {
+                return pool;
             }
             thread::yield_now();
         }
@@ -216,6 +238,48 @@ impl SharedPool {
         let shared = &self.table.shared;
         drop(shared.exchange(seat, 0, Some(pool)));
         shared.store::<LetsGo>(seat, 0, 0);
+    }
+
+    /// Notes a call on the pool that the seat has as an event. Does not wait.
+    pub(crate) fn note(&self, seat: &mut Seat<Option<Pool>, LockView>, pool: &Pool)
+        requires own { seat.old.table_id ≡ self.now.id }
+        requires live { 0 < seat.old.me.0.parts }
+        requires numbered { 0 < length seat.old.me.0.strands }
+        requires has { seat.old.me.0.taken ≡ Some (taken_of seat.old.me.0) }
+        requires moves { Moves seat.old.me.0.knows (taken_of seat.old.me.0) pool.now }
+        ensures own { seat.new.table_id ≡ seat.old.table_id }
+        ensures seat { seat.new.me ≡ (noted seat.old.me.0 pool.now, seat.old.me.1) }
+        ensures known { IsKnown (taken_of seat.old.me.0) seat.old.me.0.knows
+            → IsKnown pool.now seat.new.me.0.knows }
+    {
+        self.note_named::<Brand>(seat, pool);
+    }
+
+    /// Notes a call, by a look at the lock's word, whose pool the proof names.
+    fn note_named<B: Holding>(&self, seat: &mut Seat<Option<Pool>, LockView>, _pool: &Pool)
+        requires own { seat.old.table_id ≡ self.now.id }
+        requires live { 0 < seat.old.me.0.parts }
+        requires numbered { 0 < length seat.old.me.0.strands }
+        requires has { seat.old.me.0.taken ≡ Some (taken_of seat.old.me.0) }
+        requires moves { Moves seat.old.me.0.knows (taken_of seat.old.me.0) B.pool }
+        ensures own { seat.new.table_id ≡ seat.old.table_id }
+        ensures seat { seat.new.me ≡ (noted seat.old.me.0 B.pool, seat.old.me.1) }
+    {
+        let _ = self.table.shared.load::<Notes<B>>(seat, 0);
+    }
+
+    /// Puts a pool back as it was taken or last noted. Does not wait.
+    pub(crate) fn put_back(&self, seat: &mut Seat<Option<Pool>, LockView>, pool: Pool)
+        requires own { seat.old.table_id ≡ self.now.id }
+        requires live { 0 < seat.old.me.0.parts }
+        requires slots { seat.old.me.1 ≡ (0, None) ∷ [] }
+        requires has { seat.old.me.0.taken ≡ Some pool }
+        ensures own { seat.new.table_id ≡ seat.old.table_id }
+        ensures seat { seat.new.me ≡ (without_pool seat.old.me.0, []) }
+    {
+        let shared = &self.table.shared;
+        let _ = shared.exchange(seat, 0, Some(pool));
+        shared.store::<PutsBack>(seat, 0, 0);
     }
 }
 
