@@ -1,17 +1,39 @@
--- Lines that are held back, in their order: which of them are whole.
-use Rattle.std.specs.Prelude.{ℕ, List, [], ◌∷◌, Option, Some, None}
+-- Lines that are held back, in their order: which commands are known among them.
+use Rattle.std.specs.Prelude.{◌≡◌, ◌≤◌, ◌-◌, ℕ, Bool, List, [], ◌∷◌, ◌++◌, Option, Some, None, flat_map, slice_get, slice_set}
+use Rattle.ms_base.specs.declared.kind.Kind.{Kind}
+use Rattle.ms_base.specs.declared.kind.Kind.TheVariants.{Standard}
+use Rattle.ms_base.specs.declared.step.Step.TheVariants.{New}
+use Rattle.ms_trace.specs.declared.trace.Command.{Command}
+use Rattle.ms_trace.specs.declared.trace.Command.TheVariants.{Step as Asks}
 use Rattle.jvm_log.specs.declared.held.Entry.{Entry}
-use Rattle.jvm_log.specs.declared.held.Entry.TheVariants.{Whole, Open, Void}
+use Rattle.jvm_log.specs.declared.held.Held.{Held}
+use Rattle.jvm_log.specs.declared.held.Entry.TheVariants.{Whole, Born, Asked, Void}
 use Rattle.jvm_log.specs.declared.placed.Placed.{Placed}
+use Rattle.jvm_log.specs.NameActs.{name_acts}
 
--- The whole lines among those held back.
-abbrev pub whole_lines : List Entry → List Placed
-whole_lines [] = []
-whole_lines (Whole line ∷ entries) = line ∷ whole_lines entries
-whole_lines (Open instead ∷ entries) = whole_lines entries
-whole_lines (Void ∷ entries) = whole_lines entries
+-- The line that opens a loader.
+abbrev pub opening : ℕ → Kind → Placed
+opening loader kind = record { command = Asks (New loader kind); address = 0 }
 
--- What stands for a line that never will be known.
-abbrev pub settled : Option Placed → Entry
-settled None = Void
-settled (Some line) = Whole line
+-- The command of an entry, as far as it is known: a loader is standard until its kind is told.
+abbrev pub known_of : Entry → List Command
+known_of (Whole line) = line.command ∷ []
+known_of (Born loader) = Asks (New loader Standard) ∷ []
+known_of Asked = []
+known_of Void = []
+
+-- The commands that are known among the lines held back.
+abbrev pub waiting : List Entry → List Command
+waiting entries = flat_map known_of entries
+
+-- What these do to names.
+abbrev pub name_acts_of : List Entry → List (ℕ × Bool)
+name_acts_of entries = flat_map name_acts (waiting entries)
+
+-- A line is put where its request passed the pool, if it did and the place is still waiting, and else at
+-- the end.
+abbrev pub PutsLine : Option ℕ → Placed → Held → Held → Type 0
+PutsLine None line old new = new.entries.items ≡ old.entries.items ++ Whole line ∷ []
+PutsLine (Some number) line old new =
+    old.first ≤ number → slice_get old.entries.items (number - old.first) ≡ Some Asked
+    → new.entries.items ≡ slice_set old.entries.items (number - old.first) (Whole line)

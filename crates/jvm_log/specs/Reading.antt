@@ -10,7 +10,7 @@ use Rattle.jvm_log.specs.declared.event.Event.{Event}
 use Rattle.jvm_log.specs.declared.event.Event.TheVariants.{Begun, LoaderBorn, LoaderDies, Requested, Returned}
 use Rattle.jvm_log.specs.declared.event.Event.TheVariants.{TakenFromFreeBlocks, Failed, Deallocated, ChunkRequested}
 use Rattle.jvm_log.specs.declared.event.Event.TheVariants.{ChunkHandedOut, Enlarged, Committed, Told, ClassAdded}
-use Rattle.jvm_log.specs.declared.event.Event.TheVariants.{LoaderNamed, Collection, Dropped}
+use Rattle.jvm_log.specs.declared.event.Event.TheVariants.{LoaderNamed, Collection, Dropped, OtherRelease}
 use Rattle.jvm_log.specs.declared.event.Said.{Said}
 use Rattle.jvm_log.specs.Parts.{◌>>=◌, address_after, address_at, after, level_after, level_at, number_after, number_at}
 use Rattle.jvm_log.specs.Parts.{only, past, space_at}
@@ -115,15 +115,31 @@ arena_saying arena space saying =
     (deallocated arena space saying))
     (failed arena space saying)
 
--- `Arena @A (SPACE sm): ..`.
+-- `SPACE sm): `, the name of an arena.
+unfoldable pub arena_name : List ℕ → Option (Space × List ℕ)
+arena_name name = do
+  space ← space_at name
+  saying ← after (codes " sm): ") space.1
+  Some (space.0, saying)
+
+-- `NAME): `, another name, which tells that the log is of another release.
+unfoldable pub other_name : List ℕ → Option Event
+other_name name = do
+  rest ← past 41 name
+  saying ← after (codes ": ") rest
+  Some OtherRelease
+
+-- What an arena of that name does.
+unfoldable pub arena_named : ℕ → List ℕ → Option Event
+arena_named arena name = elim (arena_name name) [ None ↦ other_name name | Some read ↦ arena_saying arena read.0 read.1 ]
+
+-- `Arena @A (NAME): ..`.
 unfoldable pub arena_line : List ℕ → Option Event
 arena_line message = do
   rest ← after (codes "Arena @") message
   arena ← address_at rest
-  rest ← after (codes " (") arena.1
-  space ← space_at rest
-  saying ← after (codes " sm): ") space.1
-  arena_saying arena.0 space.0 saying
+  name ← after (codes " (") arena.1
+  arena_named arena.0 name
 
 -- `Metaspace::allocate: type T return P.`.
 unfoldable pub told_line : List ℕ → Option Event

@@ -81,6 +81,8 @@ pub enum Event {
     Collection,
     /// The JVM left out lines of its log.
     Dropped,
+    /// An arena has a name that none has in JDK 17.
+    OtherRelease,
 }
 
 /// What a line says, and the thread that wrote it.

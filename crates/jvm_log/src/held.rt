@@ -2,9 +2,12 @@
 //!
 //!     new 3 ?    alloc 1 7 20    ?    calloc 3 0 65      a line goes out only from the front,
 //!     ---------------------------------------------      and only once it is whole
-ghost use Rattle.std.specs.Prelude.{◌≡◌, ◌≤◌, ◌<◌, ◌-◌, ◌+◌, ◌%◌, ◌^◌, ◌++◌, ◌∷◌, [], length, IfOk, OnOk, IfSome, IfNone, Some, None, slice_set};
+ghost use Rattle.std.specs.Prelude.{◌≡◌, ◌≢◌, ◌≤◌, ◌<◌, ◌-◌, ◌+◌, ◌%◌, ◌^◌, ◌++◌, ◌∷◌, [], true, length, IfOk, OnOk, IfSome, IfNone, Some, None, slice_set, slice_get, IsTrue, IsFalse};
+ghost use Rattle.jvm_log.specs.Held.{known_of, opening};
 
 use crate::placed::Placed;
+use ms_base::{Kind, Step};
+use ms_trace::Command;
 use std::alloc::{AllocError, Global};
 use std::collections::VecDeque;
 
@@ -13,8 +16,10 @@ use std::collections::VecDeque;
 pub(crate) enum Entry {
     /// It is whole.
     Whole(Placed),
-    /// It isn't known yet; this stands for it where it never will be.
-    Open(Option<Placed>),
+    /// It opens the loader of that name, which is standard unless its kind is told.
+    Born(u16),
+    /// It is a request's, and comes to nothing unless that is answered.
+    Asked,
     /// It came to nothing.
     Void,
 }
@@ -26,12 +31,15 @@ pub(crate) struct Held {
     pub(crate) first: u64,
     pub(crate) entries: VecDeque<Entry>,
     /// Whether nothing more will be known.
-    closed: bool,
+    pub(crate) closed: bool,
 }
 
 impl Held {
-    ghost use Rattle.jvm_log.specs.declared.held.Entry.TheVariants.{Whole, Open, Void};
-    ghost use Rattle.jvm_log.specs.Held.{whole_lines};
+    ghost use Rattle.ms_base.specs.declared.step.Step.TheVariants.{New};
+    ghost use Rattle.ms_trace.specs.declared.trace.Command.TheVariants.{Step as Asks};
+    ghost use Rattle.jvm_log.specs.declared.held.Entry.TheVariants.{Whole, Born, Asked, Void};
+    ghost use Rattle.jvm_log.specs.Held.{PutsLine, waiting, name_acts_of};
+    ghost use Rattle.jvm_log.specs.NameActs.{name_acts};
 
     /// Makes an empty list.
     pub(crate) fn new(alloc: Global) -> Held
@@ -44,22 +52,21 @@ impl Held {
         }
     }
 
-    /// Tells how many lines are held back.
+    /// Returns how many lines are held back.
     pub(crate) fn len(&self) -> usize
         ensures { result ≡ length self.now.entries.items }
     {
         self.entries.len()
     }
 
-    /// Adds a line that isn't known yet, and answers its number. Another may stand for it where it
-    /// never will be known.
-    pub(crate) fn open(&mut self, instead: Option<Placed>) -> Result<u64, AllocError>
-        ensures added { OnOk result (self.new.entries.items ≡ self.old.entries.items ++ Open instead ∷ []) }
+    /// Adds an entry, and returns its number.
+    pub(crate) fn open(&mut self, entry: Entry) -> Result<u64, AllocError>
+        ensures added { OnOk result (self.new.entries.items ≡ self.old.entries.items ++ entry ∷ []) }
         ensures number { IfOk result
             (λ number. number ≡ (self.old.first + length self.old.entries.items) % 2 ^ 64) }
     {
         let number = self.first.wrapping_add(self.entries.len() as u64);
-        self.entries.push_back(Entry::Open(instead))?;
+        self.entries.push_back(entry)?;
         Ok(number)
     }
 
@@ -71,47 +78,91 @@ impl Held {
         Ok(())
     }
 
-    /// Makes the line of that number whole. Where that number is gone, or there is none, adds it.
+    /// Makes a request's line of that number whole. Adds the line where that number is gone, or there
+    /// is none.
     pub(crate) fn put(&mut self, number: Option<u64>, line: Placed) -> Result<(), AllocError>
-        ensures in_place { IfSome number (λ number. self.old.first ≤ number
-            → number - self.old.first < length self.old.entries.items
-            → self.new.entries.items ≡ slice_set self.old.entries.items (number - self.old.first) (Whole line)) }
-        ensures at_the_end { OnOk result (IfNone number
-            (self.new.entries.items ≡ self.old.entries.items ++ Whole line ∷ [])) }
+        ensures in_place { OnOk result (PutsLine number line self.old self.new) }
+        ensures names { OnOk result (name_acts line.command ≡ []
+            → name_acts_of self.new.entries.items ≡ name_acts_of self.old.entries.items) }
     {
-        if let Some(number) = number
-            && number >= self.first
-            && let Some(entry) = self.entries.get_mut((number - self.first) as usize)
-        {
-            *entry = Entry::Whole(line);
-            return Ok(());
+        match number {
+            Some(number) => self.put_at(number, line),
+            None => self.add(line),
         }
-        self.add(line)
     }
 
-    /// Makes nothing of the line of that number, where it isn't known yet.
-    pub(crate) fn cancel(&mut self, number: u64)
-        ensures { whole_lines self.new.entries.items ≡ whole_lines self.old.entries.items }
+    /// Makes a request's line of that number whole, or adds the line where that number is gone.
+    fn put_at(&mut self, number: u64, line: Placed) -> Result<(), AllocError>
+        ensures in_place { OnOk result (PutsLine (Some number) line self.old self.new) }
+        ensures names { OnOk result (name_acts line.command ≡ []
+            → name_acts_of self.new.entries.items ≡ name_acts_of self.old.entries.items) }
+    {
+        if !self.is_asked(number) {
+            return self.add(line);
+        }
+        if let Some(entry) = self.entries.get_mut((number - self.first) as usize) {
+            *entry = Entry::Whole(line);
+        }
+        Ok(())
+    }
+
+    /// Checks whether the entry of that number is a request's that isn't answered yet.
+    fn is_asked(&self, number: u64) -> bool
+        ensures later { IsTrue result → self.now.first ≤ number }
+        ensures asked { IsTrue result → slice_get self.now.entries.items (number - self.now.first) ≡ Some Asked }
+        ensures otherwise { IsFalse result → self.now.first ≤ number
+            → slice_get self.now.entries.items (number - self.now.first) ≢ Some Asked }
+    {
+        if number < self.first {
+            return false;
+        }
+        match self.entries.get((number - self.first) as usize) {
+            Some(entry) => *entry == Entry::Asked,
+            None => false,
+        }
+    }
+
+    /// Makes the line of that number whole by the loader's kind, where it opens one and is still held
+    /// back.
+    pub(crate) fn tell_kind(&mut self, number: u64, kind: Kind)
+        ensures { name_acts_of self.new.entries.items ≡ name_acts_of self.old.entries.items }
     {
         if number >= self.first
             && let Some(entry) = self.entries.get_mut((number - self.first) as usize)
-            && let Entry::Open(_) = *entry
+            && let Entry::Born(loader) = *entry
+        {
+            *entry = Entry::Whole(opening(loader, kind));
+        }
+    }
+
+    /// Makes nothing of a request's line of that number, where it isn't known yet.
+    pub(crate) fn cancel(&mut self, number: u64)
+        ensures { waiting self.new.entries.items ≡ waiting self.old.entries.items }
+    {
+        if number >= self.first
+            && let Some(entry) = self.entries.get_mut((number - self.first) as usize)
+            && let Entry::Asked = *entry
         {
             *entry = Entry::Void;
         }
     }
 
     /// Takes the first line, where it is whole, or nothing more will be known.
-    pub(crate) fn next(&mut self) -> Option<Placed> {
-        for _ in 0..self.entries.len() {
-            let line = match *self.entries.front()? {
-                Entry::Whole(line) => Some(line),
-                Entry::Open(instead) if self.closed => instead,
-                Entry::Open(_) => return None,
-                Entry::Void => None,
-            };
+    pub(crate) fn next(&mut self) -> Option<Placed>
+        ensures first { IfSome result
+            (λ line. waiting self.old.entries.items ≡ line.command ∷ waiting self.new.entries.items) }
+        ensures none { IfNone result (waiting self.new.entries.items ≡ waiting self.old.entries.items) }
+        ensures all { self.old.closed ≡ true → IfNone result (waiting self.new.entries.items ≡ []) }
+        ensures closed { self.new.closed ≡ self.old.closed }
+    {
+        for _passed in 0..self.entries.len() {
+            let entry = *self.entries.front()?;
+            if !self.closed && is_open(entry) {
+                return None;
+            }
             let _ = self.entries.pop_front();
             self.first = self.first.wrapping_add(1);
+            let line = known(entry);
             if line.is_some() {
                 return line;
             }
@@ -120,19 +171,57 @@ impl Held {
     }
 
     /// Gives up waiting for the first line.
-    pub(crate) fn settle_first(&mut self) {
-        if let Some(entry) = self.entries.front_mut()
-            && let Entry::Open(instead) = *entry
-        {
-            *entry = match instead {
-                Some(line) => Entry::Whole(line),
-                None => Entry::Void,
-            };
+    pub(crate) fn settle_first(&mut self)
+        ensures { waiting self.new.entries.items ≡ waiting self.old.entries.items }
+    {
+        if let Some(entry) = self.entries.front_mut() {
+            *entry = settled(*entry);
         }
     }
 
     /// Gives up waiting for any line.
-    pub(crate) fn close(&mut self) {
+    pub(crate) fn close(&mut self)
+        ensures entries { self.new.entries ≡ self.old.entries }
+        ensures closed { self.new.closed ≡ true }
+    {
         self.closed = true;
+    }
+}
+
+/// The line that opens a loader.
+fn opening(loader: u16, kind: Kind) -> Placed
+    ensures { result ≡ opening loader kind }
+{
+    Placed {
+        command: Command::Step(Step::New { loader, kind }),
+        address: 0,
+    }
+}
+
+/// The line of an entry, as far as it is known.
+fn known(entry: Entry) -> Option<Placed>
+    ensures some { IfSome result (λ line. known_of entry ≡ line.command ∷ []) }
+    ensures none { IfNone result (known_of entry ≡ []) }
+{
+    match entry {
+        Entry::Whole(line) => Some(line),
+        Entry::Born(loader) => Some(opening(loader, Kind::Standard)),
+        Entry::Asked | Entry::Void => None,
+    }
+}
+
+/// Checks whether more may be known of an entry later.
+fn is_open(entry: Entry) -> bool {
+    matches!(entry, Entry::Born(_) | Entry::Asked)
+}
+
+/// What stands for an entry of which nothing more will be known.
+fn settled(entry: Entry) -> Entry
+    ensures { known_of result ≡ known_of entry }
+{
+    match entry {
+        Entry::Born(loader) => Entry::Whole(opening(loader, Kind::Standard)),
+        Entry::Asked => Entry::Void,
+        known => known,
     }
 }

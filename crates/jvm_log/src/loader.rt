@@ -1,9 +1,7 @@
 //! A loader that lives, its blocks, and a thread's request to it: what each amounts to in a trace.
-ghost use Rattle.std.specs.Prelude.{◌≡◌, ◌≢◌, ◌+◌, ◌<◌, ◌^◌, IfSome, IfNone, Some};
+ghost use Rattle.std.specs.Prelude.{◌≡◌, ◌≢◌, ◌+◌, ◌<◌, ◌^◌, IfSome, IfNone, OnSome, Some};
 
-use crate::placed::Placed;
 use ms_base::{Kind, Space, Step};
-use ms_trace::Command;
 
 /// A loader that lives.
 #[derive(Clone, Copy, Debug, PartialEq, Eq)]
@@ -43,7 +41,7 @@ impl Loader {
     ghost use Rattle.ms_base.specs.declared.step.Step.TheVariants.{Free};
     ghost use Rattle.jvm_log.specs.Steps.{step_for};
 
-    /// Tells the step that answers a request for so many words, under the next number of a block.
+    /// Returns the step that answers a request for so many words, under the next number of a block.
     pub(crate) fn allocating(&self, space: Space, words: u64) -> Step
         ensures { result ≡ step_for space self.now.name self.now.next words }
     {
@@ -62,7 +60,22 @@ impl Loader {
         }
     }
 
-    /// Tells the step that frees a block, if it is this loader's.
+    /// Takes the next number of a block of this loader, which lies at that address, if one is left.
+    pub(crate) fn next_block(&mut self, loader: u64) -> Option<Block>
+        ensures same { self.new ≡ record self.old { next = self.new.next } }
+        ensures block { IfSome result (λ block. (block.birth ≡ self.old.birth) × (block.number ≡ self.old.next)) }
+        ensures next { OnSome result (self.new.next ≡ self.old.next + 1) }
+    {
+        let number = self.next;
+        self.next = number.checked_add(1)?;
+        Some(Block {
+            loader,
+            birth: self.birth,
+            number,
+        })
+    }
+
+    /// Returns the step that frees a block, if it is this loader's.
     pub(crate) fn freeing(&self, block: &Block) -> Option<Step>
         ensures own { IfSome result (λ step. block.now.birth ≡ self.now.birth) }
         ensures step { IfSome result (λ step. step ≡ Free self.now.name block.now.number) }
@@ -79,7 +92,7 @@ impl Loader {
 }
 
 impl Request {
-    /// Tells the request with its line at that number, once it has none.
+    /// Returns the request with its line at that number, once it has none.
     pub(crate) fn placed_at(self, line: u64) -> Request
         ensures { result ≡ record self { line = Some line } }
     {
@@ -89,9 +102,4 @@ impl Request {
             line: Some(line),
         }
     }
-}
-
-/// The line that opens a loader.
-pub(crate) fn opening(loader: u16, kind: Kind) -> Placed {
-    Placed::from(Command::Step(Step::New { loader, kind }))
 }

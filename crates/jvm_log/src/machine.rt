@@ -5,10 +5,13 @@
 //! A request's line stands where its first step in the pool stood, which is under one lock for all
 //! threads, or else where its answer stood: so lines are held back until what stands before them is
 //! known. Takes memory for what lives, and for the lines held back.
+ghost use Rattle.std.specs.Prelude.{◌≡◌, ◌∷◌, [], true, false, All, IfOk, IfSome, IfNone, OnOk};
+ghost use Rattle.jvm_log.specs.Waits.{Answers, Frees, UsesNames, acts_in, is_closed, names_in, waiting_in};
+
 use crate::event::{Event, Said};
-use crate::held::Held;
+use crate::held::{Entry, Held};
 use crate::kinds::kind_by_level;
-use crate::loader::{Block, Loader, Request, opening};
+use crate::loader::{Block, Loader, Request};
 use crate::names::Names;
 use crate::placed::Placed;
 use crate::trouble::Trouble;
@@ -47,15 +50,17 @@ pub struct Machine {
     births: u64,
     /// Whether any line about the metaspace came.
     began: bool,
+    /// Whether any told of a request.
+    asked: bool,
     reports: bool,
 }
 
 impl Machine {
-    ghost use Rattle.std.specs.Prelude.{◌≡◌};
-    ghost use Rattle.jvm_log.specs.Held.{whole_lines};
-
     /// Makes a machine that knows nothing. With `reports` it asks for a report after each collection.
-    pub fn new(alloc: Global, reports: bool) -> Result<Machine, AllocError> {
+    pub fn new(alloc: Global, reports: bool) -> Result<Machine, AllocError>
+        ensures waits { IfOk result (λ machine. waiting_in machine ≡ []) }
+        ensures names { IfOk result (λ machine. All (λ used. used ≡ false) (names_in machine)) }
+    {
         Ok(Machine {
             names: Names::new(alloc)?,
             loaders: HashMap::new(alloc),
@@ -66,13 +71,19 @@ impl Machine {
             held: Held::new(alloc),
             births: 0,
             began: false,
+            asked: false,
             reports,
         })
     }
 
-    /// Tells how many loaders were born so far, each of which has a line in the trace.
+    /// Returns how many loaders were born so far, each of which has a line in the trace.
     pub fn births(&self) -> u64 {
         self.births
+    }
+
+    /// Checks whether any line told of a request.
+    pub fn has_requests(&self) -> bool {
+        self.asked
     }
 
     /// Tells how many loaders were born before the one whose block lies at that address.
@@ -81,21 +92,44 @@ impl Machine {
     }
 
     /// Takes in what a line says. What is wrong with it is no error.
-    pub fn take_in(&mut self, said: Said) -> Result<Option<Trouble>, AllocError> {
-        let began = self.began;
-        self.began = true;
+    pub fn take_in(&mut self, said: Said) -> Result<Option<Trouble>, AllocError>
+        ensures { OnOk result (UsesNames self.old self.new) }
+    {
+        let late = self.begin(said.event);
         let trouble = self.heed(said)?;
-        if !began && said.event != Event::Begun {
-            return Ok(Some(Trouble::BeginsLate));
+        self.shorten();
+        Ok(late.or(trouble))
+    }
+
+    /// Takes in that the log has begun, and returns what the first event shows to be wrong.
+    fn begin(&mut self, event: Event) -> Option<Trouble>
+        ensures no_line { waiting_in self.new ≡ waiting_in self.old }
+        ensures names { names_in self.new ≡ names_in self.old }
+    {
+        let is_late = !self.began && !is_a_beginning(event);
+        self.began = true;
+        if is_late {
+            Some(Trouble::BeginsLate)
+        } else {
+            None
         }
+    }
+
+    /// Gives up waiting for the first line, where too many are held back.
+    fn shorten(&mut self)
+        ensures no_line { waiting_in self.new ≡ waiting_in self.old }
+        ensures names { names_in self.new ≡ names_in self.old }
+    {
         if self.held.len() > MOST_HELD {
             self.held.settle_first();
         }
-        Ok(trouble)
     }
 
     /// Does what an event asks.
-    fn heed(&mut self, said: Said) -> Result<Option<Trouble>, AllocError> {
+    #[tactic(auto, using(crate::proofs::NameLemmas::uses_quiet, crate::proofs::NameLemmas::uses_same))]
+    fn heed(&mut self, said: Said) -> Result<Option<Trouble>, AllocError>
+        ensures { OnOk result (UsesNames self.old self.new) }
+    {
         let thread = said.thread;
         match said.event {
             Event::LoaderBorn {
@@ -111,7 +145,7 @@ impl Machine {
                 address,
             } => self.answer(thread, arena, space, Some(address)),
             Event::TakenFromFreeBlocks { arena, space } => self.answer(thread, arena, space, None),
-            Event::Failed { .. } => Ok(self.refuse(thread)),
+            Event::Failed { .. } => self.refuse(thread),
             Event::Deallocated { arena, address, .. } => self.free(arena, address),
             Event::ChunkRequested { space, level } => self.ask_for_chunk(thread, space, level),
             Event::ChunkHandedOut { .. } | Event::Enlarged { .. } | Event::Committed { .. } => {
@@ -122,28 +156,43 @@ impl Machine {
             Event::Collection => self.collect(),
             Event::Begun | Event::LoaderNamed { .. } => Ok(None),
             Event::Dropped => Ok(Some(Trouble::Dropped)),
+            Event::OtherRelease => Ok(Some(Trouble::OtherRelease)),
         }
     }
 
-    /// A loader is born.
+    /// A loader is born. Where one lives at its address the log lacks that one's death.
     fn bear(
         &mut self,
         loader: u64,
         arena: u64,
         class_arena: u64,
-    ) -> Result<Option<Trouble>, AllocError> {
-        let trouble = if self.loaders.contains_key(&loader) {
-            self.bury(loader)?;
-            Some(Trouble::UnknownLoader)
-        } else {
-            None
-        };
+    ) -> Result<Option<Trouble>, AllocError>
+        ensures { OnOk result (UsesNames self.old self.new) }
+    {
+        if !self.loaders.contains_key(&loader) {
+            return self.open(loader, arena, class_arena);
+        }
+        let _ = self.bury(loader)?;
+        let _ = self.open(loader, arena, class_arena)?;
+        Ok(Some(Trouble::UnknownLoader))
+    }
+
+    /// Opens a loader under a name that none has.
+    #[tactic(auto, using(crate::proofs::NameLemmas::uses_quiet, crate::proofs::NameLemmas::uses_same))]
+    fn open(
+        &mut self,
+        loader: u64,
+        arena: u64,
+        class_arena: u64,
+    ) -> Result<Option<Trouble>, AllocError>
+        ensures { OnOk result (UsesNames self.old self.new) }
+    {
         let Some(name) = self.names.take() else {
             return Ok(Some(Trouble::NoName));
         };
+        let line = self.held.open(Entry::Born(name))?;
         let birth = self.births;
         self.births = birth.wrapping_add(1);
-        let line = self.held.open(Some(opening(name, Kind::Standard)))?;
         self.loaders.insert(
             loader,
             Loader {
@@ -159,28 +208,34 @@ impl Machine {
         self.arenas.insert(arena, loader)?;
         self.arenas.insert(class_arena, loader)?;
         if birth == 0 {
-            self.set_kind(loader, Kind::Boot)?;
+            self.set_kind(loader, Kind::Boot);
         }
-        Ok(trouble)
+        Ok(None)
     }
 
     /// Sets the kind of a loader that has none.
-    fn set_kind(&mut self, loader: u64, kind: Kind) -> Result<(), AllocError> {
+    fn set_kind(&mut self, loader: u64, kind: Kind)
+        ensures acts { acts_in self.new ≡ acts_in self.old }
+        ensures names { names_in self.new ≡ names_in self.old }
+    {
         let Some(known) = self.loaders.get_mut(&loader) else {
-            return Ok(());
+            return;
         };
         if known.kind.is_some() {
-            return Ok(());
+            return;
         }
         known.kind = Some(kind);
-        let (line, name) = (known.line, known.name);
-        self.held.put(Some(line), opening(name, kind))
+        let line = known.line;
+        self.held.tell_kind(line, kind);
     }
 
     /// A loader dies.
-    fn bury(&mut self, loader: u64) -> Result<Option<Trouble>, AllocError> {
-        let is_told = self.is_told(loader);
-        self.set_kind(loader, Kind::Standard)?;
+    #[tactic(auto, using(crate::proofs::NameLemmas::uses_quiet, crate::proofs::NameLemmas::uses_same))]
+    fn bury(&mut self, loader: u64) -> Result<Option<Trouble>, AllocError>
+        ensures { OnOk result (UsesNames self.old self.new) }
+    {
+        let untold = self.untold(loader);
+        self.set_kind(loader, Kind::Standard);
         let Some(dead) = self.loaders.remove(&loader) else {
             return Ok(Some(Trouble::UnknownLoader));
         };
@@ -188,23 +243,23 @@ impl Machine {
         let _ = self.arenas.remove(&dead.class_arena);
         self.held.add(Placed::from(Command::Step(Step::Unload { loader: dead.name })))?;
         self.names.give_back(dead.name);
-        Ok(if is_told {
-            None
-        } else {
-            Some(Trouble::UnknownKind)
-        })
+        Ok(untold)
     }
 
-    /// Tells whether the kind of a loader is told, or it has no blocks.
-    fn is_told(&self, loader: u64) -> bool {
+    /// Returns what is wrong with a loader that has blocks, and of which no kind is told.
+    fn untold(&self, loader: u64) -> Option<Trouble> {
         match self.loaders.get(&loader) {
-            Some(known) => known.kind.is_some() || known.next == 0,
-            None => true,
+            Some(known) if known.kind.is_none() && known.next != 0 => Some(Trouble::UnknownKind),
+            _ => None,
         }
     }
 
     /// A thread asks an arena for words.
-    fn ask(&mut self, thread: u64, arena: u64, words: u64) -> Result<Option<Trouble>, AllocError> {
+    fn ask(&mut self, thread: u64, arena: u64, words: u64) -> Result<Option<Trouble>, AllocError>
+        ensures no_line { waiting_in self.new ≡ waiting_in self.old }
+        ensures names { names_in self.new ≡ names_in self.old }
+    {
+        self.asked = true;
         let trouble = self.forget(thread);
         if !self.arenas.contains_key(&arena) {
             return Ok(Some(Trouble::UnknownArena));
@@ -222,7 +277,8 @@ impl Machine {
 
     /// Forgets a request that a thread has open.
     fn forget(&mut self, thread: u64) -> Option<Trouble>
-        ensures no_line { whole_lines self.new.held.entries.items ≡ whole_lines self.old.held.entries.items }
+        ensures no_line { waiting_in self.new ≡ waiting_in self.old }
+        ensures names { names_in self.new ≡ names_in self.old }
     {
         let request = self.requests.remove(&thread)?;
         self.abandon(request);
@@ -231,7 +287,8 @@ impl Machine {
 
     /// Makes nothing of a request.
     fn abandon(&mut self, request: Request)
-        ensures no_line { whole_lines self.new.held.entries.items ≡ whole_lines self.old.held.entries.items }
+        ensures no_line { waiting_in self.new ≡ waiting_in self.old }
+        ensures names { names_in self.new ≡ names_in self.old }
     {
         if let Some(line) = request.line {
             self.held.cancel(line);
@@ -239,21 +296,25 @@ impl Machine {
     }
 
     /// A request is refused: HotSpot asks again.
-    fn refuse(&mut self, thread: u64) -> Option<Trouble>
-        ensures no_line { whole_lines self.new.held.entries.items ≡ whole_lines self.old.held.entries.items }
+    fn refuse(&mut self, thread: u64) -> Result<Option<Trouble>, AllocError>
+        ensures no_line { waiting_in self.new ≡ waiting_in self.old }
+        ensures names { names_in self.new ≡ names_in self.old }
     {
-        match self.forget(thread) {
+        Ok(match self.forget(thread) {
             Some(_) => None,
             None => Some(Trouble::Unasked),
-        }
+        })
     }
 
     /// A thread's request takes a step in the pool: the first decides where its line stands.
-    fn pass_the_pool(&mut self, thread: u64) -> Result<Option<Trouble>, AllocError> {
+    fn pass_the_pool(&mut self, thread: u64) -> Result<Option<Trouble>, AllocError>
+        ensures no_line { OnOk result (waiting_in self.new ≡ waiting_in self.old) }
+        ensures names { names_in self.new ≡ names_in self.old }
+    {
         if let Some(request) = self.requests.get_mut(&thread)
             && request.line.is_none()
         {
-            *request = request.placed_at(self.held.open(None)?);
+            *request = request.placed_at(self.held.open(Entry::Asked)?);
         }
         Ok(None)
     }
@@ -264,13 +325,16 @@ impl Machine {
         thread: u64,
         space: Space,
         level: u64,
-    ) -> Result<Option<Trouble>, AllocError> {
+    ) -> Result<Option<Trouble>, AllocError>
+        ensures acts { acts_in self.new ≡ acts_in self.old }
+        ensures names { names_in self.new ≡ names_in self.old }
+    {
         if let Some(request) = self.requests.get(&thread)
             && let Some(loader) = self.arenas.get(&request.arena)
             && let Some(kind) = kind_by_level(space, level, request.words)
         {
             let loader = *loader;
-            self.set_kind(loader, kind)?;
+            self.set_kind(loader, kind);
         }
         Ok(None)
     }
@@ -282,7 +346,11 @@ impl Machine {
         arena: u64,
         space: Space,
         address: Option<u64>,
-    ) -> Result<Option<Trouble>, AllocError> {
+    ) -> Result<Option<Trouble>, AllocError>
+        ensures line { OnOk result (Answers thread arena space self.old self.new) }
+        ensures acts { OnOk result (acts_in self.new ≡ acts_in self.old) }
+        ensures names { names_in self.new ≡ names_in self.old }
+    {
         let Some(request) = self.requests.remove(&thread) else {
             return Ok(Some(Trouble::Unasked));
         };
@@ -294,34 +362,24 @@ impl Machine {
             self.abandon(request);
             return Ok(Some(Trouble::UnknownLoader));
         };
-        let Some(next) = owner.next.checked_add(1) else {
-            return Ok(Some(Trouble::NoName));
-        };
-        let block = Block {
-            loader,
-            birth: owner.birth,
-            number: owner.next,
-        };
         let line = Placed {
             command: Command::Step(owner.allocating(space, request.words)),
             address: address.unwrap_or(0),
         };
-        owner.next = next;
+        let Some(block) = owner.next_block(loader) else {
+            self.abandon(request);
+            return Ok(Some(Trouble::NoName));
+        };
+        keep(&mut self.blocks, &mut self.answers, thread, block, address)?;
         self.held.put(request.line, line)?;
-        match address {
-            Some(address) => {
-                self.blocks.insert(address, block)?;
-                self.answers.insert(thread, Answer::At(address))?;
-            }
-            None => {
-                self.answers.insert(thread, Answer::FromFreeBlocks(block))?;
-            }
-        }
         Ok(None)
     }
 
     /// A thread is told the address of its block. After a collection the answer was another thread's.
-    fn tell(&mut self, thread: u64, address: u64) -> Result<Option<Trouble>, AllocError> {
+    fn tell(&mut self, thread: u64, address: u64) -> Result<Option<Trouble>, AllocError>
+        ensures no_line { waiting_in self.new ≡ waiting_in self.old }
+        ensures names { names_in self.new ≡ names_in self.old }
+    {
         let answer = match self.answers.remove(&thread) {
             Some(answer) => Some(answer),
             None => match self.answerer(address) {
@@ -352,7 +410,11 @@ impl Machine {
     }
 
     /// An arena frees the block at that address.
-    fn free(&mut self, arena: u64, address: u64) -> Result<Option<Trouble>, AllocError> {
+    fn free(&mut self, arena: u64, address: u64) -> Result<Option<Trouble>, AllocError>
+        ensures line { OnOk result (Frees arena address self.old self.new) }
+        ensures acts { OnOk result (acts_in self.new ≡ acts_in self.old) }
+        ensures names { names_in self.new ≡ names_in self.old }
+    {
         let Some(loader) = self.arenas.get(&arena) else {
             return Ok(Some(Trouble::UnknownArena));
         };
@@ -370,16 +432,22 @@ impl Machine {
     }
 
     /// A class whose block lies at that address belongs to a loader of that kind.
-    fn add_class(&mut self, address: u64, kind: Kind) -> Result<Option<Trouble>, AllocError> {
+    fn add_class(&mut self, address: u64, kind: Kind) -> Result<Option<Trouble>, AllocError>
+        ensures acts { acts_in self.new ≡ acts_in self.old }
+        ensures names { names_in self.new ≡ names_in self.old }
+    {
         if let Some(block) = self.blocks.get(&address) {
             let loader = block.loader;
-            self.set_kind(loader, kind)?;
+            self.set_kind(loader, kind);
         }
         Ok(None)
     }
 
     /// A collection is over.
-    fn collect(&mut self) -> Result<Option<Trouble>, AllocError> {
+    fn collect(&mut self) -> Result<Option<Trouble>, AllocError>
+        ensures acts { OnOk result (acts_in self.new ≡ acts_in self.old) }
+        ensures names { names_in self.new ≡ names_in self.old }
+    {
         if self.reports {
             self.held.add(Placed::from(Command::Report))?;
         }
@@ -388,10 +456,17 @@ impl Machine {
 
     /// Takes in that the log is over: what is not known by now never will be. Answers what the end
     /// shows to be wrong.
-    pub fn finish(&mut self) -> Option<Trouble> {
+    pub fn finish(&mut self) -> Option<Trouble>
+        ensures closed { is_closed self.new ≡ true }
+        ensures lines { waiting_in self.new ≡ waiting_in self.old }
+        ensures names { names_in self.new ≡ names_in self.old }
+    {
         self.held.close();
         if !self.requests.is_empty() {
             return Some(Trouble::EndsEarly);
+        }
+        if !self.asked {
+            return Some(Trouble::NoRequest);
         }
         if self.has_untold() {
             return Some(Trouble::UnknownKind);
@@ -399,7 +474,7 @@ impl Machine {
         None
     }
 
-    /// Tells whether a loader with blocks lives whose kind isn't told.
+    /// Checks whether a loader with blocks lives whose kind isn't told.
     fn has_untold(&self) -> bool {
         for loader in self.loaders.values() {
             if loader.kind.is_none() && loader.next != 0 {
@@ -410,7 +485,38 @@ impl Machine {
     }
 
     /// Takes the next line of the trace, if it is known so far.
-    pub fn next_line(&mut self) -> Option<Placed> {
+    pub fn next_line(&mut self) -> Option<Placed>
+        ensures first { IfSome result
+            (λ line. waiting_in self.old ≡ line.command ∷ waiting_in self.new) }
+        ensures none { IfNone result (waiting_in self.new ≡ waiting_in self.old) }
+        ensures all { is_closed self.old ≡ true → IfNone result (waiting_in self.new ≡ []) }
+        ensures closed { is_closed self.new ≡ is_closed self.old }
+        ensures names { names_in self.new ≡ names_in self.old }
+    {
         self.held.next()
     }
+}
+
+/// Keeps a block at its address, or until that is told, as what answered a thread.
+fn keep(
+    blocks: &mut HashMap<u64, Block>,
+    answers: &mut HashMap<u64, Answer>,
+    thread: u64,
+    block: Block,
+    address: Option<u64>,
+) -> Result<(), AllocError> {
+    let answer = match address {
+        Some(address) => {
+            blocks.insert(address, block)?;
+            Answer::At(address)
+        }
+        None => Answer::FromFreeBlocks(block),
+    };
+    answers.insert(thread, answer)?;
+    Ok(())
+}
+
+/// Checks whether a log may begin with an event: a log of another release lacks JDK 17's first line.
+fn is_a_beginning(event: Event) -> bool {
+    matches!(event, Event::Begun | Event::OtherRelease)
 }

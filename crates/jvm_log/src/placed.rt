@@ -9,6 +9,10 @@ pub struct Placed {
 }
 
 impl From<Command> for Placed {
+    ghost use Rattle.std.specs.Prelude.{◌≡◌};
+
+    ghost from_gives = { λ command placed. placed.command ≡ command };
+
     fn from(command: Command) -> Placed {
         Placed {
             command,

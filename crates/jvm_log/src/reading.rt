@@ -1,7 +1,7 @@
 //! Reading a line: what it says, if anything.
 ghost use Rattle.std.specs.Prelude.{◌≡◌};
 ghost use Rattle.std.specs.Option.{option_copied, option_map};
-ghost use Rattle.jvm_log.specs.Reading.{arena_line, arena_saying, bearing, begun_line, change_at, chunk_at};
+ghost use Rattle.jvm_log.specs.Reading.{arena_line, arena_name, arena_named, arena_saying, bearing, other_name, begun_line, change_at, chunk_at};
 ghost use Rattle.jvm_log.specs.Reading.{chunk_requested, class_line, collection_line, committed_line, deallocated, dropped_line};
 ghost use Rattle.jvm_log.specs.Reading.{dying, enlarged_line, event_in, failed, handed_out, head_of};
 ghost use Rattle.jvm_log.specs.Reading.{kind_in, loader_line, named_line, manager_line, requested, returned, said_in};
@@ -117,9 +117,36 @@ fn arena_line(message: &[u8]) -> Option<Event>
     ensures { result ≡ arena_line message.now }
 {
     let (arena, rest) = address_at(after(b"Arena @".as_slice(), message)?)?;
-    let (space, rest) = space_at(after(b" (".as_slice(), rest)?)?;
-    let saying = after(b" sm): ".as_slice(), rest)?;
-    arena_saying(arena, space, saying)
+    arena_named(arena, after(b" (".as_slice(), rest)?)
+}
+
+/// Reads what an arena of that name does.
+#[tactic(auto, unfolding(crate::specs::Reading::arena_named))]
+fn arena_named(arena: u64, name: &[u8]) -> Option<Event>
+    ensures { result ≡ arena_named arena name.now }
+{
+    match arena_name(name) {
+        Some((space, saying)) => arena_saying(arena, space, saying),
+        None => other_name(name),
+    }
+}
+
+/// Reads the name of an arena, `SPACE sm): `.
+#[tactic(auto, unfolding(crate::specs::Reading::arena_name))]
+fn arena_name(name: &[u8]) -> Option<(Space, &[u8])>
+    ensures { option_map (λ read. (read.0, read.1.now)) result ≡ arena_name name.now }
+{
+    let (space, rest) = space_at(name)?;
+    Some((space, after(b" sm): ".as_slice(), rest)?))
+}
+
+/// Reads a name that no arena of JDK 17 has, `NAME): `.
+#[tactic(auto, unfolding(crate::specs::Reading::other_name))]
+fn other_name(name: &[u8]) -> Option<Event>
+    ensures { result ≡ other_name name.now }
+{
+    let _ = after(b": ".as_slice(), past(b')', name)?)?;
+    Some(Event::OtherRelease)
 }
 
 /// Reads what an arena does.

@@ -1,0 +1,10 @@
+-- A report does nothing to names.
+use Rattle.std.proofs.Common.{refl}
+use Rattle.ms_trace.specs.declared.trace.Command.TheVariants.{Report}
+use Rattle.jvm_log.proofs.HeldLemmas.{acts_quiet}
+use Rattle.jvm_log.proofs.machine.Machine.collect.Goals as goal
+
+pub returns-in_ok-add-clause-acts : goal.returns-in_ok-add-clause-acts
+returns-in_ok-add-clause-acts c =
+    acts_quiet c.args.self.now.held.entries.items c.add.new.self.entries.items c.from.result Report c.in_ok-add.ensures
+    c.from.ensures refl
