@@ -178,6 +178,45 @@ def wrong_logs(bench):
     expect_trace("".join(freed), TRACE, warnings=[f"line {len(freed)}: a freed block"])
 
 
+def lacking_logs(bench):
+    """A log that lacks lines, at its end, in the middle or of a level, is told with the line that shows it."""
+    request = at(1, arena(201, "requested 9 words."))
+    expect_trace("".join([*SMALL, request]), TRACE, warnings=[f"line {len(SMALL) + 1}: the log ends inside of a request"])
+    expect_trace("".join([*SMALL, request])[:-3], TRACE)
+    again = [*SMALL, request, request, at(1, arena(201, f"returning {place(0x2200)}."))]
+    expect_trace("".join(again), TRACE.replace("unload 2\n", "unload 2\nalloc 1 3 9\n"),
+                 warnings=[f"line {len(SMALL) + 2}: a request has no answer"])
+    reborn = [*SMALL, at(1, born(200)), at(1, f"CLMS @{place(300)} : dies.")]
+    expect_trace("".join(reborn), TRACE.replace("report\n", "unload 1\nnew 3 standard\nreport\n"),
+                 warnings=[f"line {len(SMALL) + 1}: a loader's death or birth is missing", "2 such lines"])
+    expect_trace(BEGIN + at(1, born(100)), "new 0 boot\nreport\n", warnings=["line 2: no line tells of a request"])
+
+
+def other_releases(bench):
+    """Lines of JDK 25 are told, the first of them with its line's number and then how many; so is that no request was read."""
+    first, word, *rest = [at(1, f"Arena @{place(101)} (non-class arena): {text}") for text in (
+        "born.", "requested 10 words.", f"returning block (@{place(0x1000)} word size 10) taken from arena, no wastage")]
+    ended = converted("".join([first, at(1, born(100)), word, *rest, told(1, 0x1000)]))
+    lines = ended.errors.decode().splitlines()
+    expect(ended.status == 0 and ended.output == b"new 0 boot\nreport\n", ended)
+    expect(lines[0].startswith("metalog: line 1: the log is of another release than JDK 17: what this arena does"), lines)
+    expect(any(line.startswith("metalog: 3 such lines: the log is of another release") for line in lines), lines)
+    expect(any("no line tells of a request" in line for line in lines), lines)
+    expect_trace("".join([*SMALL, word]), TRACE, warnings=[f"line {len(SMALL) + 1}: the log is of another release"])
+
+
+def a_loader_is_opened_once(bench):
+    """A loader whose kind is told after a hundred thousand other lines has gone out as standard by then, and only once."""
+    lines = [BEGIN, at(1, born(100)), at(1, born(200)), *asked(1, 101, 2, 0x1000, 2)]
+    for number in range(1, 100_200):
+        lines += [at(1, arena(101, "requested 2 words.")), at(1, arena(101, f"returning {place(0x1000 + 16 * number)}."))]
+    lines += [*asked(1, 201, 2, 0x9000000, 14), at(1, f"CLMS @{place(200)} : dies.")]
+    ended = converted("".join(lines))
+    opened = [line for line in ended.output.splitlines() if line.startswith(b"new ")]
+    expect(ended.status == 0 and opened == [b"new 0 boot", b"new 1 standard"], ended.status, opened)
+    expect(ended.output.endswith(b"alloc 1 0 2\nunload 1\nreport\n"), ended.output[-80:])
+
+
 def names_are_used_again(bench):
     """With more than 65536 loaders the names of dead ones come again, and only those."""
     lines, names = [BEGIN], []
@@ -239,6 +278,9 @@ def tests():
     yield Test("a log that is cut at any byte becomes a trace", a_log_cut_anywhere)
     yield Test("a log with lines of a megabyte becomes its trace", long_lines)
     yield Test("what is wrong with a log is told", wrong_logs)
+    yield Test("a log that lacks lines is told", lacking_logs)
+    yield Test("a log of another release is told", other_releases)
+    yield Test("a loader whose kind is told late is opened once", a_loader_is_opened_once)
     yield Test("names of loaders are used again only once they are free", names_are_used_again)
     yield Test("blocks of a log join", blocks_join)
     yield Test("the loaders of a log have names", loaders_have_names)
