@@ -284,6 +284,8 @@ def phases_of_two_lines(bench, workers, loaders, phases, scale):
 
 def traces_of(scale, more):
     """Each trace, at so many times the lines."""
+    # First, since its bound is low: a run's memory can't be seen below this process's own, which texts raise.
+    yield Test(f"blocks that lie far apart{more}", blocks_that_lie_far_apart, (scale,))
     yield Test(f"block names that hash to one place{more}", names_of_one_place, (scale,))
     for workers in (1, 2):
         yield Test(f"the deepest tree of free blocks, {workers} at work{more}", deepest_tree, (workers, scale))
@@ -297,7 +299,6 @@ def traces_of(scale, more):
     yield Test(f"one loader of 49,500 chunks{more}", one_loader_of_many_chunks, (scale,))
     yield Test(f"a pool of small parts{more}", a_pool_of_small_parts, (scale,))
     yield Test(f"a limit among small parts{more}", a_limit_among_small_parts, (scale,))
-    yield Test(f"blocks that lie far apart{more}", blocks_that_lie_far_apart, (scale,))
     for loaders, phases, beside in (1000, 30000, ""), (16000, 22000, " beside 16,000 loaders"):
         for workers in (1, 2, 8):
             yield Test(f"{phases:,} phases of two lines{beside}, {workers} at work{more}", phases_of_two_lines,
