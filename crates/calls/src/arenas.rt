@@ -11,7 +11,7 @@ use std::alloc::Global;
 use std::io;
 use std::marker::Model;
 
-/// Tells the row.
+/// Prints the row.
 pub(crate) fn tell_all(rt: &HostRuntime) -> io::Result<()> {
     let (mut pool, account) = opened(rt.alloc())?;
     let mut arena = Arena::new(rt.alloc(), account, Kind::Reflection);
@@ -77,7 +77,7 @@ fn tell_new(rt: &HostRuntime, pool: &mut Pool) {
     account_lines(rt, "arena account", &arena.into_account());
 }
 
-/// Tells an arena: its kind, its sums, and its account.
+/// Prints an arena: its kind, its sums, and its account.
 fn tell_arena(rt: &HostRuntime, arena: &Arena) {
     line(
         rt,
@@ -87,7 +87,7 @@ fn tell_arena(rt: &HostRuntime, arena: &Arena) {
     account_lines(rt, "arena account", arena.account());
 }
 
-/// Tells a pool and an arena over it: its sums, its chunks, and its live blocks.
+/// Prints a pool and an arena over it: its sums, its chunks, and its live blocks.
 fn tell_both(rt: &HostRuntime, pool: &Pool, arena: &Arena) {
     tell_pool(rt, pool);
     tell(rt, &(arena.kind(), arena.used(), arena.totals()));
@@ -97,7 +97,7 @@ fn tell_both(rt: &HostRuntime, pool: &Pool, arena: &Arena) {
     }
 }
 
-/// Tells the live blocks of so many words that start in the first granule, each with its first
+/// Prints the live blocks of so many words that start in the first granule, each with its first
 /// word.
 fn tell_live(rt: &HostRuntime, arena: &Arena, words: u64) {
     for start in 0..8192 {

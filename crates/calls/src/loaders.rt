@@ -12,7 +12,7 @@ use ms_pool::Pool;
 use std::alloc::Global;
 use std::{io, mem};
 
-/// Tells the row.
+/// Prints the row.
 pub(crate) fn tell_all(rt: &HostRuntime) -> io::Result<()> {
     let system = filled(rt.alloc(), &HIDDEN)?;
     mark(rt, "loaders");
@@ -86,14 +86,14 @@ fn tell_new(rt: &HostRuntime, pool: &mut Pool) {
     loaders_lines(rt, &Loaders::new(rt.alloc()));
 }
 
-/// Tells the accounts of a loader that has gone.
+/// Prints the accounts of a loader that has gone.
 fn tell_parted(rt: &HostRuntime, loader: Loader) {
     let (account, class_account) = loader.into_accounts();
     account_lines(rt, "loaders account", &account);
     account_lines(rt, "loaders account", &class_account);
 }
 
-/// Tells loaders: how many, and each by its name.
+/// Prints loaders: how many, and each by its name.
 fn loaders_lines(rt: &HostRuntime, loaders: &Loaders) {
     loaders.learn();
     line(rt, "loaders count", &loaders.len());
@@ -110,7 +110,7 @@ fn loaders_lines(rt: &HostRuntime, loaders: &Loaders) {
     }
 }
 
-/// Tells a loader: its kind, its sums, its accounts, and the names of some blocks.
+/// Prints a loader: its kind, its sums, its accounts, and the names of some blocks.
 fn loader_lines(rt: &HostRuntime, loader: &Loader) {
     line(rt, "loaders of", &(loader.kind(), loader.totals()));
     for (start, words) in [(0, 10), (4096, 4000), (67108864, 20)] {
@@ -128,7 +128,7 @@ fn loader_lines(rt: &HostRuntime, loader: &Loader) {
 /// The name of the loader that is put.
 const NAME: u16 = 7;
 
-/// Tells a loader: its kind, the sums over its arenas, and its accounts.
+/// Prints a loader: its kind, the sums over its arenas, and its accounts.
 fn tell_loader(rt: &HostRuntime, loader: &Loader) {
     tell(rt, &(loader.kind(), loader.totals()));
     tell(rt, &(loader.read(1, 19), loader.read(2, 0)));

@@ -1,5 +1,5 @@
-//! `calls` makes the library's calls while an allocator refuses growths, and tells what it finds, a
-//! row for each word of the command line. Some rows make a call that takes memory:
+//! `calls` makes the library's calls while an allocator refuses growths, and prints what it finds,
+//! a row for each word of the command line. Some rows make a call that takes memory:
 //!
 //!     carve before .. free Span { .. }   the state, once all is prepared
 //!     carve answer ok ()                 what the call answers
@@ -15,14 +15,14 @@
 //!     tree leaf (Span { .. }, ..)        a part of a state
 //!
 //! The row `replay` replays the trace of standard input, by as many workers as the next word says,
-//! and tells what each line is answered, or why none is:
+//! and prints what each line is answered, or why none is:
 //!
 //!     replay answer 1 Ok
 //!     replay answer fault NoThread
 //!     replay again 1 Ok                  where memory or a thread was wanted: the call once more
 //!
 //! The row `steps` has a system run the steps of standard input's trace, with as many granules for
-//! the limit as the next word says, and tells the same, and what the system holds at last:
+//! the limit as the next word says, and prints the same, and what the system holds at last:
 //!
 //!     steps left PoolTotals { .. } 1 ..  the sums over the pool, then each loader, with its chunks
 //!
@@ -75,7 +75,7 @@ fn main(rt: HostRuntime) -> ExitCode {
     }
 }
 
-/// Tells the rows that the command line names.
+/// Prints the rows that the command line names.
 fn tell_asked<R: Threads + Wait + Sync>(rt: &HostRuntime, waits: &R) -> io::Result<()> {
     let mut words = env::args(rt)?;
     drop(words.next());
@@ -114,7 +114,7 @@ impl Numbered {
     }
 }
 
-/// Tells the row that a word names, or the row before it whose number the word is.
+/// Prints the row that a word names, or the row before it whose number the word is.
 fn tell_word<R: Threads + Wait + Sync>(
     rt: &HostRuntime,
     waits: &R,
@@ -129,7 +129,7 @@ fn tell_word<R: Threads + Wait + Sync>(
     }
 }
 
-/// Tells the row of that name, of what stands below an arena or is shared.
+/// Prints the row of that name, of what stands below an arena or is shared.
 fn tell_named<R: Wait>(rt: &HostRuntime, waits: &R, name: &str) -> io::Result<()> {
     match name {
         "sizes" => sizes::tell_all(rt),
@@ -152,7 +152,7 @@ fn tell_named<R: Wait>(rt: &HostRuntime, waits: &R, name: &str) -> io::Result<()
     }
 }
 
-/// Tells a row of arenas, of loaders or of a system.
+/// Prints a row of arenas, of loaders or of a system.
 fn tell_upper(rt: &HostRuntime, name: &str) -> io::Result<()> {
     match name {
         "place" => tell_arena(rt, "place", arenas::Asked::Place),
@@ -171,7 +171,7 @@ fn tell_upper(rt: &HostRuntime, name: &str) -> io::Result<()> {
     }
 }
 
-/// Tells a row of texts.
+/// Prints a row of texts.
 fn tell_other(rt: &HostRuntime, name: &str) -> io::Result<()> {
     match name {
         "parse" => tell_row(rt, "parse", Parsing::prepared(rt.alloc())),
@@ -185,17 +185,17 @@ fn tell_other(rt: &HostRuntime, name: &str) -> io::Result<()> {
     }
 }
 
-/// Tells a row of an arena.
+/// Prints a row of an arena.
 fn tell_arena(rt: &HostRuntime, name: &str, asked: arenas::Asked) -> io::Result<()> {
     tell_probed_row(rt, name, Allocating::prepared(rt.alloc(), asked))
 }
 
-/// Tells a row of a system with loaders.
+/// Prints a row of a system with loaders.
 fn tell_system(rt: &HostRuntime, name: &str, asked: Asked) -> io::Result<()> {
     tell_probed_row(rt, name, Asking::filled(rt.alloc(), asked))
 }
 
-/// Tells a row of what is written of sums.
+/// Prints a row of what is written of sums.
 fn tell_report(rt: &HostRuntime, name: &str, written: Written) -> io::Result<()> {
     tell_row(rt, name, Reporting::prepared(rt.alloc(), written))
 }

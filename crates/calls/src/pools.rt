@@ -27,7 +27,7 @@ pub(crate) const GRANULES: u64 = 10240;
 /// How many chunks of the lowest level, of 128 words, there are at most.
 pub(crate) const SMALLEST: u64 = 655360;
 
-/// Tells a pool: the sums over each space, what counts beside the limits, which granules are
+/// Prints a pool: the sums over each space, what counts beside the limits, which granules are
 /// committed, and to whom words are lent.
 pub(crate) fn tell_pool(rt: &HostRuntime, pool: &Pool) {
     tell(rt, &pool.all_totals(Space::NonClass));
@@ -41,7 +41,7 @@ pub(crate) fn tell_pool(rt: &HostRuntime, pool: &Pool) {
     tell_owners(rt, pool);
 }
 
-/// Tells each word from which on words are lent to another owner, or to none.
+/// Prints each word from which on words are lent to another owner, or to none.
 fn tell_owners(rt: &HostRuntime, pool: &Pool) {
     let mut last = None;
     for number in 0..SMALLEST {
@@ -53,7 +53,7 @@ fn tell_owners(rt: &HostRuntime, pool: &Pool) {
     }
 }
 
-/// Tells an account: its space, and its chunks in the order taken.
+/// Prints an account: its space, and its chunks in the order taken.
 pub(crate) fn tell_account(rt: &HostRuntime, account: &Account) {
     tell(rt, &account.space());
     for place in 0..account.held() {
@@ -61,8 +61,8 @@ pub(crate) fn tell_account(rt: &HostRuntime, account: &Account) {
     }
 }
 
-/// Tells an account on lines of its own: its owner's number, its space, and its chunks in the order
-/// taken.
+/// Prints an account on lines of its own: its owner's number, its space, and its chunks in the
+/// order taken.
 pub(crate) fn account_lines(rt: &HostRuntime, about: &str, account: &Account) {
     line(rt, about, &(account.owner(), account.space()));
     for place in 0..account.held() {

@@ -24,7 +24,7 @@ pub(crate) trait Places {
     fn have(&mut self, words: u64) -> io::Result<Option<Block>>;
 }
 
-/// Asks for blocks of falling sizes, and tells those that were had.
+/// Asks for blocks of falling sizes, and prints those that were had.
 pub(crate) fn tell_places<P: Places>(rt: &HostRuntime, places: &mut P) -> io::Result<()> {
     for fewer in 0..MOST_WORDS - 1 {
         tell_places_of(rt, places, MOST_WORDS - fewer)?;
@@ -32,7 +32,7 @@ pub(crate) fn tell_places<P: Places>(rt: &HostRuntime, places: &mut P) -> io::Re
     Ok(())
 }
 
-/// Asks for blocks of so many words until there is none, and tells those that were had.
+/// Asks for blocks of so many words until there is none, and prints those that were had.
 fn tell_places_of<P: Places>(rt: &HostRuntime, places: &mut P, words: u64) -> io::Result<()> {
     for _ in 0..MOST_PLACES {
         match places.have(words)? {

@@ -13,7 +13,7 @@ use ms_report::{
 use std::alloc::{AllocError, Global};
 use std::io;
 
-/// Tells the row.
+/// Prints the row.
 pub(crate) fn tell_all(rt: &HostRuntime) -> io::Result<()> {
     let totals = filled_totals(rt.alloc(), &HIDDEN)?;
     mark(rt, "report");
@@ -24,7 +24,7 @@ pub(crate) fn tell_all(rt: &HostRuntime) -> io::Result<()> {
     Ok(())
 }
 
-/// Tells how many of some replies are refusals, by name.
+/// Prints how many of some replies are refusals, by name.
 fn tell_refusals(rt: &HostRuntime) {
     let answers = [
         plain(1, Reply::Ok),
@@ -44,14 +44,14 @@ fn plain(number: u32, reply: Reply) -> Answered {
     }
 }
 
-/// Tells how much of the memory is what.
+/// Prints how much of the memory is what.
 fn tell_usages(rt: &HostRuntime, usages: &Usages) {
     line(rt, "report usage", &usages.space);
     line(rt, "report class usage", &usages.class_space);
     line(rt, "report usage of both", &usages.both);
 }
 
-/// Tells how much the loaders of each kind hold.
+/// Prints how much the loaders of each kind hold.
 fn tell_kinds(rt: &HostRuntime, kinds: &Kinds) {
     line(rt, "report boot", &kinds.boot);
     line(rt, "report standard", &kinds.standard);
@@ -143,7 +143,7 @@ impl Row for Reporting {
     }
 }
 
-/// Tells a text that was to be made.
+/// Prints a text that was to be made.
 fn tell_text(rt: &HostRuntime, made: Result<String, AllocError>) -> Answer {
     match made {
         Ok(text) => gave(rt, &text),

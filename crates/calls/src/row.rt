@@ -15,22 +15,22 @@ pub(crate) enum Answer {
 
 /// A state, and a call on it that takes memory.
 pub(crate) trait Row {
-    /// Tells the state, and leaves it: the rest of a line. It fails where it lacks memory of its
+    /// Prints the state, and leaves it: the rest of a line. It fails where it lacks memory of its
     /// own.
     fn tell_state(&mut self, rt: &HostRuntime) -> io::Result<()>;
 
-    /// Makes the call, and tells its answer where it is served: the rest of a line.
+    /// Makes the call, and prints its answer where it is served: the rest of a line.
     fn call(&mut self, rt: &HostRuntime) -> Answer;
 }
 
 /// A row whose state keeps what no call tells.
 pub(crate) trait Probed: Row + Drop + Sized {
-    /// Makes calls that use up what the state keeps, and tells what they give: the rest of a line.
+    /// Makes calls that use up what the state keeps, and prints what they give: the rest of a line.
     /// It fails where it lacks memory of its own.
     fn probe(self, rt: &HostRuntime) -> io::Result<()>;
 }
 
-/// Tells a row, once it is prepared.
+/// Prints a row, once it is prepared.
 pub(crate) fn tell_row<R: Row + Drop>(
     rt: &HostRuntime,
     name: &str,
@@ -40,7 +40,7 @@ pub(crate) fn tell_row<R: Row + Drop>(
     tell_lines(rt, name, &mut row)
 }
 
-/// Tells a row, once it is prepared, and then what calls find in its state.
+/// Prints a row, once it is prepared, and then what calls find in its state.
 pub(crate) fn tell_probed_row<R: Probed>(
     rt: &HostRuntime,
     name: &str,
@@ -51,7 +51,7 @@ pub(crate) fn tell_probed_row<R: Probed>(
     tell_probed(rt, name, row)
 }
 
-/// Tells the state, the call's answer and the state after it; where it is a refusal, the same for
+/// Prints the state, the call's answer and the state after it; where it is a refusal, the same for
 /// the call once more.
 fn tell_lines<R: Row>(rt: &HostRuntime, name: &str, row: &mut R) -> io::Result<()> {
     tell_state(rt, name, "before", row)?;
@@ -66,7 +66,7 @@ fn tell_lines<R: Row>(rt: &HostRuntime, name: &str, row: &mut R) -> io::Result<(
     }
 }
 
-/// Tells the state on a line of its own.
+/// Prints the state on a line of its own.
 fn tell_state<R: Row>(rt: &HostRuntime, name: &str, word: &str, row: &mut R) -> io::Result<()> {
     let _ = print!(rt; "{name} {word}");
     row.tell_state(rt)?;
@@ -74,7 +74,7 @@ fn tell_state<R: Row>(rt: &HostRuntime, name: &str, word: &str, row: &mut R) -> 
     Ok(())
 }
 
-/// Tells on a line of its own what calls find in the state.
+/// Prints on a line of its own what calls find in the state.
 fn tell_probed<R: Probed>(rt: &HostRuntime, name: &str, row: R) -> io::Result<()> {
     let _ = print!(rt; "{name} probed");
     let probed = row.probe(rt);
@@ -82,7 +82,7 @@ fn tell_probed<R: Probed>(rt: &HostRuntime, name: &str, row: R) -> io::Result<()
     probed
 }
 
-/// Makes the call, and tells its answer on a line of its own.
+/// Makes the call, and prints its answer on a line of its own.
 fn tell_call<R: Row>(rt: &HostRuntime, name: &str, word: &str, row: &mut R) -> Answer {
     let _ = print!(rt; "{name} {word}");
     let answer = row.call(rt);
@@ -93,40 +93,40 @@ fn tell_call<R: Row>(rt: &HostRuntime, name: &str, word: &str, row: &mut R) -> A
     answer
 }
 
-/// Tells that all is prepared: from here on a row takes no memory.
+/// Prints that all is prepared: from here on a row takes no memory.
 pub(crate) fn mark(rt: &HostRuntime, row: &str) {
     let _ = println!(rt; "{row} marked");
 }
 
-/// Tells a fact on a line of its own.
+/// Prints a fact on a line of its own.
 pub(crate) fn line<T: Debug>(rt: &HostRuntime, about: &str, fact: &T) {
     let _ = println!(rt; "{about} {fact:?}");
 }
 
-/// Tells a fact on the line.
+/// Prints a fact on the line.
 pub(crate) fn tell<T: Debug>(rt: &HostRuntime, fact: &T) {
     let _ = print!(rt; " {fact:?}");
 }
 
-/// Tells words on the line.
+/// Prints words on the line.
 pub(crate) fn say(rt: &HostRuntime, words: &str) {
     let _ = print!(rt; " {words}");
 }
 
-/// Tells that a call was served.
+/// Prints that a call was served.
 pub(crate) fn served(rt: &HostRuntime) -> Answer {
     say(rt, "ok");
     Answer::Served
 }
 
-/// Tells what a call gave.
+/// Prints what a call gave.
 pub(crate) fn gave<T: Debug>(rt: &HostRuntime, fact: &T) -> Answer {
     say(rt, "ok");
     tell(rt, fact);
     Answer::Served
 }
 
-/// Tells an answer where it is no want of memory.
+/// Prints an answer where it is no want of memory.
 pub(crate) fn told<T: Debug + Drop>(rt: &HostRuntime, answer: Result<T, Refusal>) -> Answer {
     match answer {
         Ok(value) => gave(rt, &value),

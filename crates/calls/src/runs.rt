@@ -8,7 +8,7 @@ use std::io::{self, ErrorKind, Read};
 use std::sync::Wait;
 use std::thread::Threads;
 
-/// Reads the trace and tells the row, by as many workers as a word says.
+/// Reads the trace and prints the row, by as many workers as a word says.
 pub(crate) fn tell_calls<R: Threads + Wait + Sync>(
     rt: &HostRuntime,
     waits: &R,
@@ -48,7 +48,7 @@ pub(crate) fn read_trace(rt: &HostRuntime) -> io::Result<Trace> {
     }
 }
 
-/// Replays the trace and tells the answers; answers whether memory or a thread was wanted.
+/// Replays the trace and prints the answers; returns whether memory or a thread was wanted.
 fn tell_call<R: Threads + Wait + Sync>(
     rt: &HostRuntime,
     waits: &R,
@@ -69,7 +69,7 @@ fn tell_call<R: Threads + Wait + Sync>(
     }
 }
 
-/// Tells what each line is answered; answers whether memory was wanted.
+/// Prints what each line is answered; returns whether memory was wanted.
 fn tell_replies(rt: &HostRuntime, word: &str, alone: bool, replies: &Replies) -> bool {
     let mut wanted = false;
     for answer in &replies.answers {
@@ -81,7 +81,7 @@ fn tell_replies(rt: &HostRuntime, word: &str, alone: bool, replies: &Replies) ->
     wanted
 }
 
-/// Tells a reply, where no schedule changes it: where a block starts of one worker alone.
+/// Prints a reply, where no schedule changes it: where a block starts of one worker alone.
 fn tell_answer(rt: &HostRuntime, alone: bool, answer: &Answer) {
     match answer.reply {
         Reply::At(_) if !alone => say(rt, "At"),
@@ -92,7 +92,7 @@ fn tell_answer(rt: &HostRuntime, alone: bool, answer: &Answer) {
     }
 }
 
-/// Tells the sums that no schedule changes.
+/// Prints the sums that no schedule changes.
 fn tell_fixed(rt: &HostRuntime, totals: &Totals) {
     tell(
         rt,

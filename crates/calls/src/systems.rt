@@ -76,7 +76,7 @@ impl Asking {
 }
 
 impl Row for Asking {
-    /// Tells the sums, the counts and those of each loader, which granules are committed, to whom
+    /// Prints the sums, the counts and those of each loader, which granules are committed, to whom
     /// words are lent, and the named blocks. Takes memory for the sums.
     fn tell_state(&mut self, rt: &HostRuntime) -> io::Result<()> {
         let totals = self.system.totals()?;
@@ -108,7 +108,7 @@ impl Probed for Asking {
     }
 }
 
-/// Tells a system: its counts, the sums of each loader, which granules are committed, and to whom
+/// Prints a system: its counts, the sums of each loader, which granules are committed, and to whom
 /// words are lent.
 fn tell_system(rt: &HostRuntime, system: &System) {
     tell(rt, &system.counts());
@@ -123,7 +123,7 @@ fn tell_system(rt: &HostRuntime, system: &System) {
     tell_holders(rt, system);
 }
 
-/// Tells each word from which on words are lent to another loader, or to none.
+/// Prints each word from which on words are lent to another loader, or to none.
 fn tell_holders(rt: &HostRuntime, system: &System) {
     let mut last = None;
     for number in 0..SMALLEST {
@@ -135,7 +135,7 @@ fn tell_holders(rt: &HostRuntime, system: &System) {
     }
 }
 
-/// Tells the first word of each named block.
+/// Prints the first word of each named block.
 fn tell_names(rt: &HostRuntime, system: &mut System) {
     for loader in 0..4 {
         for block in 0..4 {
@@ -150,7 +150,7 @@ fn tell_names(rt: &HostRuntime, system: &mut System) {
     }
 }
 
-/// Tells the reply of a step.
+/// Prints the reply of a step.
 fn step_told(rt: &HostRuntime, reply: Reply) -> Answer {
     match reply {
         Reply::Refused(Refusal::OutOfMemory) => Answer::Refused,
@@ -158,7 +158,7 @@ fn step_told(rt: &HostRuntime, reply: Reply) -> Answer {
     }
 }
 
-/// Tells the replies of a run.
+/// Prints the replies of a run.
 fn run_told(rt: &HostRuntime, answer: Result<Vec<Reply>, AllocError>) -> Answer {
     match answer {
         Ok(replies) => gave(rt, &replies),
@@ -166,7 +166,7 @@ fn run_told(rt: &HostRuntime, answer: Result<Vec<Reply>, AllocError>) -> Answer 
     }
 }
 
-/// Tells the sums that were to be told.
+/// Prints the sums that were to be told.
 fn totals_told(rt: &HostRuntime, answer: Result<Totals, AllocError>) -> Answer {
     match answer {
         Ok(totals) => {
@@ -178,7 +178,7 @@ fn totals_told(rt: &HostRuntime, answer: Result<Totals, AllocError>) -> Answer {
     }
 }
 
-/// Tells the details that were to be told.
+/// Prints the details that were to be told.
 fn details_told(rt: &HostRuntime, answer: Result<Details, AllocError>) -> Answer {
     match answer {
         Ok(details) => {
@@ -190,7 +190,7 @@ fn details_told(rt: &HostRuntime, answer: Result<Details, AllocError>) -> Answer
     }
 }
 
-/// Tells the maps that were to be told.
+/// Prints the maps that were to be told.
 pub(crate) fn maps_told(rt: &HostRuntime, answer: Result<Vec<RootMap>, AllocError>) -> Answer {
     match answer {
         Ok(maps) => gave(rt, &maps),

@@ -49,7 +49,7 @@ impl Row for Parsing {
     }
 }
 
-/// Tells the lines of a trace that was read.
+/// Prints the lines of a trace that was read.
 fn tell_trace(rt: &HostRuntime, trace: &Trace) -> Answer {
     let answer = served(rt);
     for line in trace.lines.as_slice() {

@@ -9,7 +9,7 @@ use ms_pool::{Pool, PoolTotals};
 use std::alloc::Global;
 use std::io;
 
-/// Works an arena, and tells what came of it.
+/// Works an arena, and returns what came of it.
 pub(crate) fn show(rt: &HostRuntime) -> io::Result<()> {
     let mut pool = Pool::new(rt.alloc(), Settings::DEFAULT)?;
     let worked = work(rt.alloc(), &mut pool);

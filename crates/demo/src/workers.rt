@@ -12,7 +12,7 @@ use std::thread::Threads;
 const TRACE: &[u8] = b"new 1 standard\nnew 2 boot\nalloc 1 1 4000\nalloc 2 1 300000\nsync\n\
     alloc 1 2 100\nunload 2\nalloc 1 1 5\nreport\n";
 
-/// Replays the trace, and tells the answers.
+/// Replays the trace, and returns the answers.
 pub(crate) fn show<R: Threads + Wait + Sync>(rt: &HostRuntime, waits: &R) -> io::Result<()> {
     let settings = Settings {
         workers: 2,

@@ -16,8 +16,9 @@ const ROOT_WORDS: u64 = 2_097_152;
 /// The level of the smallest chunk of the JVM.
 const LAST: u64 = 14;
 
-/// Tells the kind of a loader whose arena of that space asks for its first chunk at that level, for a
-/// request of so many words, if that can be told. The first loader of a log is the boot loader.
+/// Returns the kind of a loader whose arena of that space asks for its first chunk at that level,
+/// for a request of so many words, if that can be told. The first loader of a log is the boot
+/// loader.
 pub(crate) fn kind_by_level(space: Space, level: u64, words: u64) -> Option<Kind>
     ensures { IfSome result (λ kind. first_level space kind ≡ level) }
 {
@@ -34,7 +35,7 @@ pub(crate) fn kind_by_level(space: Space, level: u64, words: u64) -> Option<Kind
     }
 }
 
-/// Tells the level of the smallest chunk that has room for so many words.
+/// Returns the level of the smallest chunk that has room for so many words.
 fn fitting_level(words: u64) -> u64 {
     for back in 0..LAST {
         if (ROOT_WORDS >> (LAST - back)) >= words {

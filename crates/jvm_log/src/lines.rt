@@ -35,9 +35,8 @@ pub enum Stop {
     OutOfMemory,
 }
 
-/// Reads a log to its end, and tells the listener what each line says, in their order. Answers how
-/// many lines there were. In whatever pieces the reader
-/// gives it, the listener hears the same.
+/// Reads a log to its end, and passes what each line says to the listener, in their order. Returns
+/// how many lines there were. In whatever pieces the reader gives it, the listener hears the same.
 pub fn read_log<R: BufRead, L: Listener>(
     alloc: Global,
     input: &mut R,
@@ -57,7 +56,7 @@ pub fn read_log<R: BufRead, L: Listener>(
     Err(Stop::Input)
 }
 
-/// Tells a listener the line of that number, where it says anything.
+/// Passes the line of that number to a listener, where it says anything.
 fn hear_line<L: Listener>(listener: &mut L, number: u64, line: &[u8]) -> Result<(), Stop>
     ensures { OnOk result (HearsLine L.hears listener.old number (trimmed line.now)
         (said_in (trimmed line.now)) listener.new) }
@@ -68,7 +67,7 @@ fn hear_line<L: Listener>(listener: &mut L, number: u64, line: &[u8]) -> Result<
         None => Ok(()),
     }
 }
-/// Reads the next line, with its newline if it has one, in place of the one before, and tells
+/// Reads the next line, with its newline if it has one, in place of the one before, and returns
 /// whether there was one.
 fn next_line<R: BufRead>(input: &mut R, line: &mut Vec<u8>) -> Result<bool, Stop>
     ensures line { OnOk result (IfSome (R.remaining input.old)
@@ -85,7 +84,7 @@ fn next_line<R: BufRead>(input: &mut R, line: &mut Vec<u8>) -> Result<bool, Stop
     }
 }
 
-/// Tells what an error of a reader makes of a log.
+/// Returns what an error of a reader makes of a log.
 fn stop_of(error: &io::Error) -> Stop {
     match error.kind() {
         ErrorKind::OutOfMemory => Stop::OutOfMemory,

@@ -86,7 +86,7 @@ impl Machine {
         self.asked
     }
 
-    /// Tells how many loaders were born before the one whose block lies at that address.
+    /// Returns how many loaders were born before the one whose block lies at that address.
     pub fn birth_at(&self, address: u64) -> Option<u64> {
         Some(self.blocks.get(&address)?.birth)
     }

@@ -78,7 +78,7 @@ fn first_other(text: &[u8]) -> Option<usize>
     text.iter().position(|byte| !byte.is_ascii_digit())
 }
 
-/// Tells the number that digits are.
+/// Returns the number that digits are.
 fn number_of(digits: &[u8]) -> Option<u64>
     ensures { result ≡ number_of digits.now }
 {
@@ -101,7 +101,7 @@ pub(crate) fn address_at(text: &[u8]) -> Option<(u64, &[u8])>
     Some((address_of(digits)?, rest))
 }
 
-/// Tells the number that digits to the base 16 are.
+/// Returns the number that digits to the base 16 are.
 fn address_of(digits: &[u8]) -> Option<u64>
     ensures { result ≡ value_after 0 digits.now }
 {
@@ -114,7 +114,7 @@ fn address_of(digits: &[u8]) -> Option<u64>
     Some(address)
 }
 
-/// Tells the value of a digit to the base 16.
+/// Returns the value of a digit to the base 16.
 #[inline(always)]
 #[tactic(auto, using(std::proofs::lemmas::Bool::Decides::nat_tests), unfolding(crate::specs::Parts::small_digit))]
 fn small_digit(byte: u8) -> Option<u8>

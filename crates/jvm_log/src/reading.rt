@@ -339,7 +339,7 @@ fn named_line(message: &[u8]) -> Option<Event>
     Some(Event::LoaderNamed { data })
 }
 
-/// Tells the kind of a loader that a line describes so.
+/// Returns the kind of a loader that a line describes so.
 #[tactic(auto, unfolding(crate::specs::Reading::kind_in))]
 fn kind_in(owner: &[u8]) -> Kind
     ensures { result ≡ kind_in owner.now }

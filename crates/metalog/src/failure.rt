@@ -28,7 +28,7 @@ pub enum Failure {
 }
 
 impl Failure {
-    /// Tells the exit status.
+    /// Returns the exit status.
     pub fn status(&self) -> u8
         ensures { result ≡ status_of self.now }
     {
@@ -39,7 +39,7 @@ impl Failure {
         }
     }
 
-    /// Writes its line on `errors`, and tells the exit status. Whether the line comes out changes
+    /// Writes its line on `errors`, and returns the exit status. Whether the line comes out changes
     /// no status.
     pub fn tell<E: Write>(&self, errors: &mut E) -> u8
         ensures { result ≡ status_of self.now }

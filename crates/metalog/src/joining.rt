@@ -40,7 +40,7 @@ pub fn join(alloc: Global, lines: &mut Vec<Placed>, most: u64) -> Result<(), All
     Ok(())
 }
 
-/// Tells the block that a command asks for.
+/// Returns the block that a command asks for.
 fn asked(command: Command) -> Option<Asked> {
     match command {
         Command::Step(
@@ -61,7 +61,7 @@ fn asked(command: Command) -> Option<Asked> {
     }
 }
 
-/// Tells the command that asks for two blocks as one, if they are of one arena and not too large.
+/// Returns the command that asks for two blocks as one, if they are of one arena and not too large.
 fn both(first: Command, second: Command, most: u64) -> Option<Command> {
     let (loader, is_class, block, words) = asked(first)?;
     let (other, other_is_class, _, more) = asked(second)?;
@@ -88,7 +88,7 @@ fn both(first: Command, second: Command, most: u64) -> Option<Command> {
     Some(Command::Step(step))
 }
 
-/// Tells where the block ends that a line allocates, and 0 where it is unknown.
+/// Returns where the block ends that a line allocates, and 0 where it is unknown.
 fn end_of(line: Placed) -> u64 {
     match asked(line.command) {
         Some((_, _, _, words)) if line.address != 0 => line

@@ -66,7 +66,7 @@ pub fn options_of<'a, S: AsStr>(alloc: Global, words: &'a [S]) -> Result<Options
     }
 }
 
-/// Tells what an error of the command line makes of it.
+/// Returns what an error of the command line makes of it.
 fn reason_of(alloc: Global, error: &clap::Error) -> Refused {
     let Ok(text) = format!(in alloc; "{error}") else {
         return Refused::OutOfMemory;
@@ -87,7 +87,7 @@ fn chosen<'a>(matches: &ArgMatches<'a>) -> Options<'a> {
     }
 }
 
-/// Tells where reports are asked for: `clap` accepts no other word than the three.
+/// Returns where reports are asked for: `clap` accepts no other word than the three.
 fn reports_in(matches: &ArgMatches) -> Reports {
     match matches.get_str("reports") {
         Some("gc") => Reports::Gc,

@@ -37,7 +37,7 @@ impl Warnings {
         Ok(())
     }
 
-    /// Tells of which kind there were more.
+    /// Returns of which kind there were more.
     pub fn sum_up<E: Write>(&self, errors: &mut E) {
         for (trouble, count) in &self.told {
             if *count > 1 {

@@ -185,7 +185,7 @@ impl Arena {
         self.raw.account()
     }
 
-    /// Tells how many words are in use: the sum of the tops. Takes no memory, and looks at no
+    /// Returns how many words are in use: the sum of the tops. Takes no memory, and visits no
     /// chunk.
     pub fn used(&self) -> u64
         ensures sum { result ≡ used_of self.now.books }
@@ -194,20 +194,20 @@ impl Arena {
         self.raw.used()
     }
 
-    /// Tells for what kind of loader the arena is. Takes no memory.
+    /// Returns for what kind of loader the arena is. Takes no memory.
     pub fn kind(&self) -> Kind
         ensures { result ≡ self.now.kind }
     {
         self.raw.kind()
     }
 
-    /// Tells whether the arena's memory is small, as `RawArena` says of its own. A hint, of which
+    /// Returns whether the arena's memory is small, as `RawArena` says of its own. A hint, of which
     /// nothing is promised. Takes no memory.
     pub fn is_small(&self) -> bool {
         self.raw.is_small() && self.live.capacity() <= SMALL_BLOCKS
     }
 
-    /// Tells the sums over the arena. Takes no memory, and looks at each chunk once.
+    /// Returns the sums over the arena. Takes no memory, and visits each chunk once.
     pub fn totals(&self) -> ArenaTotals
         ensures sums { AreSums result self.now }
         ensures small { result.capacity < 2 ^ 52 }
@@ -239,7 +239,7 @@ fn put(live: &mut HashMap<u64, u64>, start: u64, words: u64)
     }
 }
 
-/// Tells whether a block is among the live ones.
+/// Returns whether a block is among the live ones.
 fn is_live(live: &HashMap<u64, u64>, block: Block) -> bool
     ensures { IsTrue result ↔ (named (by_name live.now.entries) block.start ≡ Some block.words) }
 {

@@ -104,7 +104,7 @@ impl Books {
         mem::replace(&mut self.account, account)
     }
 
-    /// Tells for how many tops there is memory, and for how many free blocks that come.
+    /// Returns for how many tops there is memory, and for how many free blocks that come.
     pub(crate) fn sizes(&self) -> (usize, usize) {
         (self.tops.capacity(), self.kept.capacity())
     }
@@ -125,7 +125,7 @@ impl Books {
         &self.account
     }
 
-    /// Tells the words in use: the sum of the tops.
+    /// Returns the words in use: the sum of the tops.
     pub(crate) fn used(&self) -> u64
         ensures sum { result ≡ used_of self.now.state }
         ensures small { result < 2 ^ 52 }
@@ -133,7 +133,7 @@ impl Books {
         self.used
     }
 
-    /// Tells the words of the free blocks.
+    /// Returns the words of the free blocks.
     pub(crate) fn kept_words(&self) -> u64
         ensures { result ≡ kept_of self.now.state }
     {
@@ -162,14 +162,14 @@ impl Books {
         Ok(())
     }
 
-    /// Tells the level by which the arena of a loader of that kind grows now.
+    /// Returns the level by which the arena of a loader of that kind grows now.
     pub(crate) fn next_level(&self, kind: Kind) -> Level
         ensures { result ≡ next_level kind self.now.space self.now.state }
     {
         growth(kind, self.account.space(), self.account.held())
     }
 
-    /// Tells the current chunk, and its top.
+    /// Returns the current chunk, and its top.
     pub(crate) fn current(&self) -> Option<(Chunk, u64)>
         ensures chunk { option_map (λ at. at.0) result ≡ current self.now.state }
         ensures top { IfSome result (λ at. at.1 ≡ current_top self.now.state) }

@@ -70,7 +70,7 @@ impl Kept {
         self.words = 0;
     }
 
-    /// Tells for how many blocks that come there is memory.
+    /// Returns for how many blocks that come there is memory.
     pub(crate) fn capacity(&self) -> usize {
         self.came.capacity()
     }
@@ -134,7 +134,7 @@ impl Kept {
         self.ordered.remove(words)
     }
 
-    /// Tells how many words the blocks have together.
+    /// Returns how many words the blocks have together.
     pub(crate) fn total(&self) -> u64
         requires { words_in self.now.kept < 2 ^ 64 }
         ensures { result ≡ words_in self.now.kept }

@@ -80,7 +80,7 @@ impl Others {
         }
     }
 
-    /// Tells for how many stretches there is memory.
+    /// Returns for how many stretches there is memory.
     pub(crate) fn capacity(&self) -> usize {
         match &self.table {
             Table::Few(list) => list.capacity(),
@@ -88,7 +88,7 @@ impl Others {
         }
     }
 
-    /// Tells for how many stretches more there is room at least.
+    /// Returns for how many stretches more there is room at least.
     pub(crate) fn spare(&self) -> usize
         ensures { result ≤ self.now.spare }
     {
@@ -115,7 +115,7 @@ impl Others {
         }
     }
 
-    /// Tells the place of a stretch, or 0 where it has none.
+    /// Returns the place of a stretch, or 0 where it has none.
     #[inline(always)]
     pub(crate) fn get(&self, stretch: usize) -> usize
         ensures { result ≡ place_among self.now stretch }

@@ -98,7 +98,7 @@ impl Pages {
         Ok(())
     }
 
-    /// Tells for how many words there is room.
+    /// Returns for how many words there is room.
     pub(crate) fn words(&self) -> usize
         requires { 512 * self.now.room < 2 ^ 63 }
         ensures { result ≡ 512 * self.now.room }
@@ -106,12 +106,12 @@ impl Pages {
         PAGE * self.room
     }
 
-    /// Tells how many pages there are in memory.
+    /// Returns how many pages there are in memory.
     pub(crate) fn stored(&self) -> usize {
         self.store.len() / PAGE
     }
 
-    /// Tells whether no word was ever written.
+    /// Returns whether no word was ever written.
     pub(crate) fn is_blank(&self) -> bool
         ensures { IsTrue result → (at : ℕ) → word_at self.now at ≡ 0 }
     {
@@ -156,7 +156,7 @@ impl Pages {
         }
     }
 
-    /// Tells whether a page was written since it was last cleared.
+    /// Returns whether a page was written since it was last cleared.
     fn is_written(&self, number: usize) -> bool
         ensures written { result ≡ (page_at self.now.pages number).written }
         ensures there { IsTrue result → number < length self.now.pages }
@@ -297,7 +297,7 @@ fn copied<T: Copy>(alloc: Global, list: &[T], room: usize) -> Result<Vec<T>, All
     Ok(copy)
 }
 
-/// Tells where the words of a page begin in the store.
+/// Returns where the words of a page begin in the store.
 fn base_of(page: Page) -> usize
     requires placed { 0 < page.place }
     requires fits { 512 * page.place < 2 ^ 64 }

@@ -91,12 +91,12 @@ impl Places {
         self.runs.clear();
     }
 
-    /// Tells for how many stretches there is memory.
+    /// Returns for how many stretches there is memory.
     pub(crate) fn capacity(&self) -> usize {
         self.others.capacity()
     }
 
-    /// Tells for how many stretches more there is room at least.
+    /// Returns for how many stretches more there is room at least.
     pub(crate) fn spare(&self) -> usize
         ensures { result ≤ self.now.others.spare }
     {
@@ -112,7 +112,7 @@ impl Places {
         self.others.reserve(alloc, stretches)
     }
 
-    /// Tells the place of a stretch, counted from 1, or 0 where it has none.
+    /// Returns the place of a stretch, counted from 1, or 0 where it has none.
     #[inline(always)]
     pub(crate) fn get(&self, stretch: usize) -> usize
         ensures { result ≡ place_of self.now stretch }
@@ -125,7 +125,7 @@ impl Places {
         self.others.get(stretch)
     }
 
-    /// Tells whether no stretch from one up to another has a place.
+    /// Returns whether no stretch from one up to another has a place.
     pub(crate) fn has_none(&self, first: usize, past: usize) -> bool
         ensures { IsTrue result
             → (stretch : ℕ) → first ≤ stretch → stretch < past → place_of self.now stretch ≡ 0 }
@@ -153,7 +153,7 @@ impl Places {
         enter_all(&mut self.newest, &mut self.others, first, past, place);
     }
 
-    /// Tells whether all stretches from one up to another are known to have places.
+    /// Returns whether all stretches from one up to another are known to have places.
     pub(crate) fn has_all(&self, first: usize, past: usize) -> bool
         ensures { IsTrue result
             → (stretch : ℕ) → first ≤ stretch → stretch < past → 0 < place_of self.now stretch }

@@ -237,7 +237,7 @@ impl RawArena {
         self.books.account()
     }
 
-    /// Tells how many words are in use: the sum of the tops. Takes no memory, and looks at no
+    /// Returns how many words are in use: the sum of the tops. Takes no memory, and visits no
     /// chunk.
     pub fn used(&self) -> u64
         ensures sum { result ≡ used_of self.now.books }
@@ -247,21 +247,21 @@ impl RawArena {
     }
 
     /// Returns how many words the live blocks have together, modulo 2^64, as they were counted.
-    /// Takes no memory, and looks at no chunk and no block.
+    /// Takes no memory, and visits no chunk and no block.
     pub fn live(&self) -> u64
         ensures { result ≡ self.now.total }
     {
         self.total
     }
 
-    /// Tells for what kind of loader the arena is. Takes no memory.
+    /// Returns for what kind of loader the arena is. Takes no memory.
     pub fn kind(&self) -> Kind
         ensures { result ≡ self.now.kind }
     {
         self.kind
     }
 
-    /// Tells the sums over the arena. Takes no memory, and looks at each chunk once.
+    /// Returns the sums over the arena. Takes no memory, and visits each chunk once.
     pub fn totals(&self) -> ArenaTotals
         requires { self.now.total + kept_of self.now.books ≤ used_of self.now.books }
         ensures sums { AreSumsOf result self.now.books self.now.total }
@@ -283,7 +283,7 @@ impl RawArena {
     }
 }
 
-/// Tells how many words the block of a request has.
+/// Returns how many words the block of a request has.
 fn asked(words: u64) -> Result<u64, Refusal>
     ensures words { IfOk result (λ n. n ≡ block_words words) }
     ensures askable { OnOk result (IsAskable words) }
@@ -298,8 +298,8 @@ fn asked(words: u64) -> Result<u64, Refusal>
     }
 }
 
-/// Tells why a block of so many words is refused where whoever keeps it finds no room for it: as an
-/// arena refuses it that wants memory, so with `ZeroWords`, `TooLarge`, or `OutOfMemory`.
+/// Returns why a block of so many words is refused where whoever keeps it finds no room for it: as
+/// an arena refuses it that wants memory, so with `ZeroWords`, `TooLarge`, or `OutOfMemory`.
 pub fn wanting_room(words: u64) -> Refusal
     ensures { PlaceRefused words result }
 {
@@ -309,7 +309,7 @@ pub fn wanting_room(words: u64) -> Refusal
     }
 }
 
-/// Tells how many words the block of a request has, and makes all room that it may need beside so
+/// Returns how many words the block of a request has, and makes all room that it may need beside so
 /// many live ones: for its words, a top, and for free blocks, as many as live blocks and two more:
 /// its own when it is freed, and the rest of a chunk that retires. Makes more where many blocks are
 /// to come.
@@ -432,8 +432,8 @@ fn start_in_taken<S: ChunkSource>(
     books.take(source, most.min(next), most, n)
 }
 
-/// Tells whether the source is to grow the current chunk, how far, and whether the chunk may become
-/// its parent, where the arena grows by that level next.
+/// Returns whether the source is to grow the current chunk, how far, and whether the chunk may
+/// become its parent, where the arena grows by that level next.
 #[inline(always)]
 fn growth_asked(books: &Books, next: Level, n: u64) -> Option<(Chunk, u64, bool)>
     requires { n ≤ size_of 0 }

@@ -25,7 +25,7 @@ pub struct ArenaTotals {
     pub ghost balance: { used ≡ live + free_blocks + waste },
 }
 
-/// Tells the words of an account's chunks, and those of their fronts.
+/// Returns the words of an account's chunks, and those of their fronts.
 pub(crate) fn sums_of(account: &Account) -> (u64, u64)
     ensures capacity { result.0 ≡ capacity_of account.now.chunks }
     ensures fronts { result.1 ≡ fronts_of account.now.chunks }

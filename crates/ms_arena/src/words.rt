@@ -77,7 +77,7 @@ impl Words {
         self.ready = self.places.spare().min(self.list.words() / STRETCH);
     }
 
-    /// Tells for how many stretches there is memory, and how many pages of words are in it.
+    /// Returns for how many stretches there is memory, and how many pages of words are in it.
     pub(crate) fn sizes(&self) -> (usize, usize) {
         (self.places.capacity(), self.list.stored())
     }

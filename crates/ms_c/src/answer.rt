@@ -85,7 +85,7 @@ fn plain(status: u32) -> Answer
     numbered(status, 0, 0, 0)
 }
 
-/// Tells a refusal in numbers.
+/// Returns a refusal in numbers.
 fn refused(refusal: Refusal) -> Answer
     ensures { result ≡ refused_as refusal }
 {
@@ -111,7 +111,7 @@ fn refused(refusal: Refusal) -> Answer
     }
 }
 
-/// Tells a reply in numbers.
+/// Returns a reply in numbers.
 pub fn tell(reply: Reply) -> Answer
     ensures { result ≡ told reply }
 {

@@ -34,7 +34,7 @@ pub extern "C" fn nizgrabul_alloc_with_run(
     allocate(alloc, handle, Space::NonClass, loader, block, words, out)
 }
 
-/// Allocates a block in the class space, and tells the run of granules that it committed, as
+/// Allocates a block in the class space, and returns the run of granules that it committed, as
 /// `nizgrabul_alloc_with_run` does. Takes memory.
 #[unsafe(no_mangle)]
 pub extern "C" fn nizgrabul_calloc_with_run(
@@ -54,7 +54,7 @@ pub extern "C" fn nizgrabul_calloc_with_run(
     allocate(alloc, handle, Space::Class, loader, block, words, out)
 }
 
-/// Allocates a block in a space, and tells the run of granules that it committed.
+/// Allocates a block in a space, and returns the run of granules that it committed.
 fn allocate(
     alloc: Global,
     handle: &mut Handle,

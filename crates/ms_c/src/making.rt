@@ -12,8 +12,8 @@ use std::alloc::Global;
 /// What the calls and structs for C are counted by: it rises where one of them changes.
 const VERSION: u32 = 4;
 
-/// Tells the library's version, for a program to compare with the NIZGRABUL_VERSION of its header.
-/// Takes no memory.
+/// Returns the library's version, for a program to compare with the NIZGRABUL_VERSION of its
+/// header. Takes no memory.
 #[unsafe(no_mangle)]
 pub extern "C" fn nizgrabul_version() -> u32
     ensures { result ≡ VERSION }

@@ -14,7 +14,7 @@ pub struct Run {
     pub came: u64,
 }
 
-/// Tells a run in numbers.
+/// Returns a run in numbers.
 pub fn tell_run(run: GranuleRun) -> Run
     ensures { run_in result ≡ run }
 {

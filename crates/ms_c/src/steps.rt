@@ -104,7 +104,7 @@ pub extern "C" fn nizgrabul_free(
 
 /// Frees the live block of a loader that starts there and has so many words, at least two, as
 /// `nizgrabul_free` does by its number, which may then be used anew. Refused with NO_LOADER, and
-/// with NOT_LIVE where the loader has no such live block. Takes no memory, and looks at each of the
+/// with NOT_LIVE where the loader has no such live block. Takes no memory, and visits each of the
 /// loader's numbers until it is found.
 #[unsafe(no_mangle)]
 pub extern "C" fn nizgrabul_free_block(

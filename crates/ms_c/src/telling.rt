@@ -16,9 +16,9 @@ use crate::totals::{Counts, LoaderSums, Totals, tell_counts, tell_loader, tell_s
 use ms_loaders::System;
 use std::alloc::Global;
 
-/// Tells how many granules are committed in both spaces and how many may be, and the same of nodes
-/// outside the class space. Answers DONE, or NO_SYSTEM, which leaves `out` as it was. Takes no
-/// memory, and looks at no loader and no chunk.
+/// Returns how many granules are committed in both spaces and how many may be, and the same of
+/// nodes outside the class space. Answers DONE, or NO_SYSTEM, which leaves `out` as it was. Takes
+/// no memory, and visits no loader and no chunk.
 #[unsafe(no_mangle)]
 pub extern "C" fn nizgrabul_counts(alloc: Global, handle: &mut Handle, out: &mut Counts) -> u32
     ensures counts { IfSome handle.old.slot.held (λ m. (result ≡ DONE) × (out.new ≡ counts_of m)) }
@@ -35,8 +35,8 @@ pub extern "C" fn nizgrabul_counts(alloc: Global, handle: &mut Handle, out: &mut
     }
 }
 
-/// Tells the words in use of one loader, in both spaces, and 0 where none has the number. Takes no
-/// memory.
+/// Returns the words in use of one loader, in both spaces, and 0 where none has the number. Takes
+/// no memory.
 #[unsafe(no_mangle)]
 pub extern "C" fn nizgrabul_used_by(alloc: Global, handle: &mut Handle, loader: u16) -> u64
     ensures words { IfSome handle.old.slot.held (λ m. result ≡ used_if (named m.loaders loader)) }
@@ -71,7 +71,7 @@ pub extern "C" fn nizgrabul_holder(alloc: Global, handle: &mut Handle, word: u64
     }
 }
 
-/// Tells a loader's name, where there is one.
+/// Returns a loader's name, where there is one.
 fn tell_holder(holder: Option<u16>) -> Answer
     ensures some { IfSome holder (λ name. result ≡ numbers 0 name 0 0) }
     ensures none { IfNone holder (result ≡ numbers 8 0 0 0) }
@@ -82,7 +82,7 @@ fn tell_holder(holder: Option<u16>) -> Answer
     }
 }
 
-/// Tells whether a granule is committed: the words from its number times a granule's words on,
+/// Returns whether a granule is committed: the words from its number times a granule's words on,
 /// which are 8192, or 2048 under the policy aggressive. With no system none is. Takes no memory.
 #[unsafe(no_mangle)]
 pub extern "C" fn nizgrabul_is_committed(alloc: Global, handle: &mut Handle, granule: u64) -> bool
@@ -101,7 +101,7 @@ pub extern "C" fn nizgrabul_is_committed(alloc: Global, handle: &mut Handle, gra
     }
 }
 
-/// Tells of each granule from the first on, as many as `out` has places, whether it is committed;
+/// Returns of each granule from the first on, as many as `out` has places, whether it is committed;
 /// with no system none is. So a program compares before and after in one call. Takes no memory.
 #[unsafe(no_mangle)]
 pub extern "C" fn nizgrabul_granules(
@@ -131,8 +131,8 @@ fn write_bits(system: &System, first: u32, out: &mut [bool])
     }
 }
 
-/// Tells all sums over the system. Answers DONE, NO_SYSTEM or OUT_OF_MEMORY; all but DONE leave
-/// `out` as it was. Takes memory while it runs; looks at each node, loader and chunk, and at no
+/// Returns all sums over the system. Answers DONE, NO_SYSTEM or OUT_OF_MEMORY; all but DONE leave
+/// `out` as it was. Takes memory while it runs; visits each node, loader and chunk, and no
 /// block.
 #[unsafe(no_mangle)]
 pub extern "C" fn nizgrabul_totals(alloc: Global, handle: &mut Handle, out: &mut Totals) -> u32
@@ -160,9 +160,9 @@ pub extern "C" fn nizgrabul_totals(alloc: Global, handle: &mut Handle, out: &mut
     }
 }
 
-/// Tells the sums of one loader. Answers DONE, NO_SYSTEM, or NO_LOADER where none has the number;
-/// all but DONE leave `out` as it was. Takes no memory; looks at each chunk of that loader, at no
-/// block, and at no other loader.
+/// Returns the sums of one loader. Answers DONE, NO_SYSTEM, or NO_LOADER where none has the number;
+/// all but DONE leave `out` as it was. Takes no memory; visits each chunk of that loader, no
+/// block, and no other loader.
 #[unsafe(no_mangle)]
 pub extern "C" fn nizgrabul_loader_totals(
     alloc: Global,

@@ -64,7 +64,7 @@ impl Model for Loader {
     ghost invariant = { IsLoader };
 }
 
-/// Tells whether a word lies in the class space.
+/// Returns whether a word lies in the class space.
 pub(crate) fn is_class(start: u64) -> bool
     ensures { result ≡ is_in Class start }
 {
@@ -267,14 +267,14 @@ impl Loader {
         (self.arena.account(), self.class_arena.account())
     }
 
-    /// Tells what kind of loader it is. Takes no memory.
+    /// Returns what kind of loader it is. Takes no memory.
     pub fn kind(&self) -> Kind
         ensures { result ≡ self.now.state.kind }
     {
         self.arena.kind()
     }
 
-    /// Tells the sums over each arena, the class space's last. Takes no memory, and looks at each
+    /// Returns the sums over each arena, the class space's last. Takes no memory, and visits each
     /// chunk once.
     #[inline(always)]
     pub fn totals(&self) -> (ArenaTotals, ArenaTotals)
@@ -285,8 +285,8 @@ impl Loader {
         (self.arena.totals(), self.class_arena.totals())
     }
 
-    /// Returns the words that are in use and those that are live, in each space. Takes no memory, and
-    /// looks at no chunk and no block.
+    /// Returns the words that are in use and those that are live, in each space. Takes no memory,
+    /// and visits no chunk and no block.
     #[inline(always)]
     pub fn amounts(&self) -> Amounts
         ensures { result ≡ amounts_by self.now.state }
@@ -299,8 +299,8 @@ impl Loader {
         }
     }
 
-    /// Tells how many words are in use, in both spaces: the sum of the tops. Takes no memory, and
-    /// looks at no chunk.
+    /// Returns how many words are in use, in both spaces: the sum of the tops. Takes no memory, and
+    /// visits no chunk.
     pub fn used(&self) -> u64
         ensures { result ≡ used_of self.now.state.arena + used_of self.now.state.class_arena }
     {

@@ -298,22 +298,22 @@ impl Loaders {
         }
     }
 
-    /// Tells whether a loader has the name. Takes no memory.
+    /// Returns whether a loader has the name. Takes no memory.
     pub fn contains(&self, name: u16) -> bool
         ensures { result ≡ is_some (named self.now name) }
     {
         self.get(name).is_some()
     }
 
-    /// Tells the name that was noted of an owner number, where one was: that of the loader whose
+    /// Returns the name that was noted of an owner number, where one was: that of the loader whose
     /// first number it is, if none was changed in its place. A guess, of which nothing is promised;
     /// whoever asks looks at the loader. Takes no memory.
     pub(crate) fn noted(&self, owner: u32) -> Option<u16> {
         self.owners.get(owner)
     }
 
-    /// Tells the words in use of the loader of a name, in both spaces, and 0 where there is none.
-    /// Takes no memory, and looks at no chunk.
+    /// Returns the words in use of the loader of a name, in both spaces, and 0 where there is none.
+    /// Takes no memory, and visits no chunk.
     pub fn used_by(&self, name: u16) -> u64
         ensures { result ≡ used_at (named self.now name) }
     {
@@ -324,7 +324,7 @@ impl Loaders {
     }
 
     /// Returns the words of the loader of a name that are in use and those that are live, in each
-    /// space, and 0 of all where there is none. Takes no memory, and looks at no chunk and no block.
+    /// space, and 0 of all where there is none. Takes no memory, and visits no chunk and no block.
     pub fn amounts_by(&self, name: u16) -> Amounts
         ensures { result ≡ amounts_at (named self.now name) }
     {
@@ -334,7 +334,7 @@ impl Loaders {
         loader.amounts()
     }
 
-    /// Tells how many loaders there are, whose names rise. Takes no memory.
+    /// Returns how many loaders there are, whose names rise. Takes no memory.
     pub fn len(&self) -> usize
         ensures count { result ≡ length self.now }
         ensures names { AreNamed self.now }
@@ -344,7 +344,7 @@ impl Loaders {
     }
 
     /// Says what is true of all loaders: their names rise, and each is sound. Takes no memory, and
-    /// looks at each loader once.
+    /// visits each loader once.
     pub fn learn(&self)
         ensures names { AreNamed self.now }
         ensures sound { All IsSoundView (values_of self.now) }
@@ -370,7 +370,7 @@ impl Loaders {
     }
 }
 
-/// Tells the first of the loader's owner numbers, by which it is noted.
+/// Returns the first of the loader's owner numbers, by which it is noted.
 fn first_owner(loader: &Loader) -> u32
     ensures { result ≡ loader.now.owner }
 {

@@ -59,12 +59,12 @@ impl Names {
         self.table.clear();
     }
 
-    /// Tells for how many names there is memory.
+    /// Returns for how many names there is memory.
     pub fn capacity(&self) -> usize {
         self.table.capacity()
     }
 
-    /// Tells which block has a name, if one has. Takes no memory.
+    /// Returns which block has a name, if one has. Takes no memory.
     #[inline(always)]
     pub fn get(&self, name: u32) -> Option<Block>
         ensures block { result ≡ named self.now.entries name }
@@ -73,7 +73,7 @@ impl Names {
         self.table.get(name)
     }
 
-    /// Takes a name out, and tells which block had it, if one had. Takes no memory.
+    /// Takes a name out, and returns which block had it, if one had. Takes no memory.
     pub fn remove(&mut self, name: u32) -> Option<Block>
         ensures block { result ≡ named self.old.entries name }
         ensures entries { self.new.entries ≡ without self.old.entries name }

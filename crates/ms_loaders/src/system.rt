@@ -3,8 +3,8 @@
 //! Kept true: the pool serves the two accounts of each loader and lends to no other, so the machine
 //! that a system stands for is good. A step is `serve` over the pool: it looks for its refusals in
 //! the machine's order, and a refusal changes nothing, but that want of memory for a new loader
-//! uses its owner numbers up. After it `committed` is called: it reads two counters, and tells what
-//! is true of every pool. Takes memory for loaders, chunks, blocks and replies; nothing waits.
+//! uses its owner numbers up. After it `committed` is called: it reads two counters, and returns
+//! what is true of every pool. Takes memory for loaders, chunks, blocks and replies; nothing waits.
 ghost use Rattle.std.specs.Prelude.{◌≡◌, ◌≢◌, ◌+◌, ◌↔◌, IfOk, OnOk, OnErr, IfErr, [], Ok, Err, length};
 ghost use Rattle.ms_base.specs.declared.kind.Space.TheVariants.{Class};
 ghost use Rattle.ms_base.specs.State.{empty_machine, limits_of};
@@ -119,8 +119,8 @@ impl System {
         self.carry_out(Step::Unload { loader: name })
     }
 
-    /// Gives back the nodes in which no chunk is held, and tells how many; those of the class space
-    /// stay. Takes no memory.
+    /// Gives back the nodes in which no chunk is held, and returns how many; those of the class
+    /// space stay. Takes no memory.
     pub fn purge(&mut self) -> u32
         ensures step { Transition self.old Step.Purge Reply.Ok self.new }
         ensures gone { result + length self.new.slots ≡ length self.old.slots }
@@ -142,8 +142,8 @@ impl System {
         })
     }
 
-    /// Tells the words in use, in both spaces: the sum of the tops of all chunks. Takes no memory,
-    /// and looks at each loader once.
+    /// Returns the words in use, in both spaces: the sum of the tops of all chunks. Takes no
+    /// memory, and visits each loader once.
     pub fn used(&self) -> u64
         ensures { result ≡ over_spaces (λ space. used_words space self.now) }
     {
@@ -154,24 +154,24 @@ impl System {
         words
     }
 
-    /// Tells the words in use of one loader, in both spaces, and 0 where none has the name. Takes
-    /// no memory, and looks at no other loader.
+    /// Returns the words in use of one loader, in both spaces, and 0 where none has the name. Takes
+    /// no memory, and visits no other loader.
     pub fn used_by(&self, name: u16) -> u64
         ensures { result ≡ used_if (named self.now.loaders name) }
     {
         self.loaders.used_by(name)
     }
 
-    /// Returns the words of one loader that are in use and those that are live, in each space, and 0
-    /// of all where none has the name. Takes no memory, and looks at no other loader and no block.
+    /// Returns the words of one loader that are in use and those that are live, in each space, and
+    /// 0 of all where none has the name. Takes no memory, and visits no other loader and no block.
     pub fn amounts_by(&self, name: u16) -> Amounts
         ensures { result ≡ amounts_if (named self.now.loaders name) }
     {
         self.loaders.amounts_by(name)
     }
 
-    /// Tells the committed words of both spaces, a multiple of a granule's. Takes no memory, and
-    /// looks at no chunk and no loader.
+    /// Returns the committed words of both spaces, a multiple of a granule's. Takes no memory, and
+    /// visits no chunk and no loader.
     pub fn committed(&self) -> u64
         ensures { result ≡ over_spaces (λ space. committed_words space self.now) }
     {
@@ -179,15 +179,15 @@ impl System {
     }
 
     /// Returns the committed words of the class space, a multiple of a granule's. Takes no memory,
-    /// and looks at the class space's granules alone, at most 8192 bits.
+    /// and visits the class space's granules alone, at most 8192 bits.
     pub fn class_committed(&self) -> u64
         ensures { result ≡ committed_words Class self.now }
     {
         self.pool.class_committed() * granule(self.policy)
     }
 
-    /// Tells all sums over the system, and a row for each loader in order of name. Takes memory for
-    /// the rows, and fails only where that is refused; looks at each node, loader and chunk, and at
+    /// Returns all sums over the system, and a row for each loader in order of name. Takes memory
+    /// for the rows, and fails only where that is refused; visits each node, loader and chunk, and
     /// no block.
     pub fn totals(&self) -> Result<Totals, AllocError>
         ensures { IfOk result (λ totals. sums_in totals ≡ sums_of self.now) }

@@ -70,7 +70,7 @@ impl Account {
         chunks
     }
 
-    /// Tells how many chunks the account holds. A caller also learns here what is true of the
+    /// Returns how many chunks the account holds. A caller also learns here what is true of the
     /// chunks of every account. Takes no memory.
     pub fn held(&self) -> u32
         ensures count { result ≡ length self.now.chunks }
@@ -79,7 +79,7 @@ impl Account {
         self.chunks.len() as u32
     }
 
-    /// Tells a chunk by its place in the order taken, from 0 on. Takes no memory.
+    /// Returns a chunk by its place in the order taken, from 0 on. Takes no memory.
     pub fn chunk(&self, place: u32) -> Chunk
         requires { place < length self.now.chunks }
         ensures { slice_get self.now.chunks place ≡ Some result }
@@ -87,7 +87,7 @@ impl Account {
         self.chunks[place as usize]
     }
 
-    /// Tells the owner's number, 1 to 4294967295, or 0 where the account is closed. Takes no
+    /// Returns the owner's number, 1 to 4294967295, or 0 where the account is closed. Takes no
     /// memory.
     pub fn owner(&self) -> u32
         ensures { result ≡ self.now.owner }
@@ -95,7 +95,7 @@ impl Account {
         self.owner
     }
 
-    /// Tells the space that the chunks lie in. Takes no memory.
+    /// Returns the space that the chunks lie in. Takes no memory.
     pub fn space(&self) -> Space
         ensures { result ≡ self.now.space }
     {

@@ -28,7 +28,7 @@ pub(crate) struct FreeCounted {
 }
 
 impl Lender {
-    /// Tells the sums over a space.
+    /// Returns the sums over a space.
     pub(crate) fn totals(&self, space: Space) -> PoolTotals
         requires kept { IsKept self.now }
         requires counted { IsCounted self.now }
@@ -66,7 +66,7 @@ impl Lender {
         let _open_ids = self.counts.open_ids;
     }
 
-    /// Tells how many granules of a space are committed, counted over its own slots.
+    /// Returns how many granules of a space are committed, counted over its own slots.
     pub(crate) fn committed_in(&self, space: Space) -> u64
         requires { IsKept self.now }
         ensures { result ≡ length (granules_in space self.now.nodes) }

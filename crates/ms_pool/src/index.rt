@@ -68,7 +68,7 @@ impl Index {
         }
     }
 
-    /// Tells the levels of any root of a space.
+    /// Returns the levels of any root of a space.
     pub(crate) fn levels(&self, space: Space) -> u16
         ensures { HaveLevels result self.now (IsRootOf space) }
     {
@@ -78,7 +78,7 @@ impl Index {
         }
     }
 
-    /// Tells the lowest root of a range that has a level.
+    /// Returns the lowest root of a range that has a level.
     pub(crate) fn next_root(&self, level: Level, from: usize, end: usize) -> Option<usize>
         requires within { end ≤ all_roots }
         ensures from { IfSome result (λ root. from ≤ root) }
@@ -96,7 +96,7 @@ impl Index {
         None
     }
 
-    /// Tells the levels of a root anew.
+    /// Sets the levels of a root anew.
     pub(crate) fn tell(&mut self, root: usize, levels: u16)
         requires within { root < all_roots }
         ensures here { get_or self.new root 0 ≡ levels }
@@ -116,7 +116,7 @@ impl Index {
     }
 }
 
-/// Tells whether the bit of a level is set.
+/// Returns whether the bit of a level is set.
 fn has_level(levels: u16, level: Level) -> bool
     ensures { result ≡ has_level levels level }
 {

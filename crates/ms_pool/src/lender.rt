@@ -157,7 +157,7 @@ impl Lender {
         }
     }
 
-    /// Tells how many granules are committed.
+    /// Returns how many granules are committed.
     pub(crate) fn committed(&self) -> u64
         requires { IsKept self.now }
         ensures { result
@@ -185,7 +185,7 @@ impl Lender {
         before - self.nodes.reserved()
     }
 
-    /// Tells whether both roots of a slot below the class space's are whole.
+    /// Returns whether both roots of a slot below the class space's are whole.
     fn is_whole(&self, slot: u32) -> bool
         requires leaves { All AreLeaves self.now.trees.items }
         requires trees { 2 * first_class_slot ≤ length self.now.trees.items }

@@ -263,7 +263,7 @@ impl Lender {
         None
     }
 
-    /// Tells whether a chunk is no root, the leader, and its buddy one free part.
+    /// Returns whether a chunk is no root, the leader, and its buddy one free part.
     fn may_become_parent(&self, space: Space, chunk: &Chunk) -> bool
         requires kept { IsKept self.now }
         requires own { IsLentThere self.now space chunk.now }

@@ -1,7 +1,7 @@
 //! What is lent, counted: chunks by level, their words and those of their fronts, of each space.
 //!
 //! Kept true, in words of the pool: what is counted are the chunks that are lent. They are counted
-//! as they come, grow and go, so whoever asks looks at no tree. Nothing here takes memory.
+//! as they come, grow and go, so whoever asks visits no tree. Nothing here takes memory.
 ghost use Rattle.std.specs.Prelude.{◌≡◌, ◌+◌, ◌<◌, ◌≤◌, ◌^◌, ◌==◌, cond, [], ◌∷◌, get_or};
 ghost use Rattle.ms_base.specs.declared.kind.Space.{Space};
 ghost use Rattle.ms_buddy.specs.Counts.{AreRaised};

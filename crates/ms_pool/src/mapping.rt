@@ -84,7 +84,7 @@ impl Place {
 }
 
 impl Lender {
-    /// Tells the map of a root of the space.
+    /// Returns the map of a root of the space.
     pub(crate) fn root_map(&self, space: Space, root: u32) -> RootMap
         requires kept { IsKept self.now }
         requires low { by_space space 0 (2 * first_class_slot) ≤ root }
@@ -134,7 +134,7 @@ impl Lender {
         Ok(())
     }
 
-    /// Tells what a place of a root of the space is, by what was found in the root's tree.
+    /// Returns what a place of a root of the space is, by what was found in the root's tree.
     fn place_in(&self, space: Space, root: u32, number: usize, found: &Found) -> Place
         requires kept { IsKept self.now }
         requires low { by_space space 0 (2 * first_class_slot) ≤ root }
@@ -149,7 +149,7 @@ impl Lender {
         Place::of(found.lent[number], found.free[number], committed)
     }
 
-    /// Tells whether a granule of a place is committed.
+    /// Returns whether a granule of a place is committed.
     fn has_granule(&self, space: Space, start: u64) -> bool
         requires kept { IsKept self.now }
         requires inside { IsRunOf space start place_words }
@@ -161,7 +161,7 @@ impl Lender {
     }
 }
 
-/// Tells what leaves each place of a root meets, in one walk over the free ones: at first all are
+/// Returns what leaves each place of a root meets, in one walk over the free ones: at first all are
 /// lent.
 fn found_in(tree: &PartTable<Global>) -> Found
     ensures { AreFound tree.now result.lent result.free }

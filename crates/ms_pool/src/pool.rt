@@ -176,7 +176,7 @@ impl Pool {
         self.lender.purge()
     }
 
-    /// Tells the sums over the account's space. Takes no memory.
+    /// Returns the sums over the account's space. Takes no memory.
     pub fn totals(&self, account: &Account) -> PoolTotals
         ensures sums { sums_in result
             ≡ pool_sums (state_in account.now.space self.now) (opened_in self.now account.now.space) }
@@ -186,8 +186,8 @@ impl Pool {
         self.lender.totals(account.space)
     }
 
-    /// Tells the sums over a space. A caller also learns here what is true of every pool. Takes no
-    /// memory.
+    /// Returns the sums over a space. A caller also learns here what is true of every pool. Takes
+    /// no memory.
     pub fn all_totals(&self, space: Space) -> PoolTotals
         ensures sums { sums_in result
             ≡ pool_sums (state_in space self.now) (opened_in self.now space) }
@@ -198,8 +198,8 @@ impl Pool {
         self.lender.totals(space)
     }
 
-    /// Tells how many granules are committed, in both spaces. A caller also learns here what is
-    /// true of every pool. Takes no memory, and looks at no chunk.
+    /// Returns how many granules are committed, in both spaces. A caller also learns here what is
+    /// true of every pool. Takes no memory, and visits no chunk.
     pub fn committed(&self) -> u64
         ensures count { result ≡ length self.now.committed + length self.now.class_committed }
         ensures sound { IsSoundLedger self.now }
@@ -217,15 +217,15 @@ impl Pool {
         self.lender.committed_in(Space::Class)
     }
 
-    /// Tells by which policy granules are committed and given back. Takes no memory.
+    /// Returns by which policy granules are committed and given back. Takes no memory.
     pub fn policy(&self) -> Policy
         ensures { result ≡ self.now.limits.policy }
     {
         self.lender.policy
     }
 
-    /// Tells how many accounts are open, in both spaces, below 2 ^ 33. A caller also learns here what
-    /// is true of every pool. Takes no memory, and looks at no chunk.
+    /// Returns how many accounts are open, in both spaces, below 2 ^ 33. A caller also learns here
+    /// what is true of every pool. Takes no memory, and visits no chunk.
     pub fn accounts(&self) -> u64
         ensures sum { result ≡ self.now.opened + self.now.class_opened }
         ensures sound { IsSoundLedger self.now }

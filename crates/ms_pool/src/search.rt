@@ -261,7 +261,7 @@ impl Lender {
         None
     }
 
-    /// Tells whether the words from the start on are committed, where they have to be.
+    /// Returns whether the words from the start on are committed, where they have to be.
     fn is_enough(&self, start: u64, wish: &Wish) -> bool
         requires { start + wish.now.words < 2 ^ 63 }
         ensures { result
@@ -272,7 +272,7 @@ impl Lender {
         !wish.committed || self.is_committed_enough(start, wish.words)
     }
 
-    /// Tells whether each granule that meets so many words from the start on is committed.
+    /// Returns whether each granule that meets so many words from the start on is committed.
     fn is_committed_enough(&self, start: u64, words: u64) -> bool
         requires some { 1 ≤ words }
         requires fits { start + words < 2 ^ 63 }

@@ -98,7 +98,7 @@ pub trait ChunkSource {
             → opened self.new space ≡ opened self.old space }
         ensures closed { closed self.old account self.new };
 
-    /// Tells the sums over the account's space. Takes no memory.
+    /// Returns the sums over the account's space. Takes no memory.
     fn totals(&mut self, account: &Account) -> PoolTotals
         requires { serves self.old account.now }
         ensures others { (other : AccountState) → serves self.old other → serves self.new other }

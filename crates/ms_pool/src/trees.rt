@@ -61,7 +61,7 @@ impl Trees {
         &self.trees[root]
     }
 
-    /// Tells the lowest root of a range whose tree has a free leaf of a level, without a look at
+    /// Returns the lowest root of a range whose tree has a free leaf of a level, without reading
     /// the trees.
     pub(crate) fn next_root(&self, level: Level, from: usize, end: usize) -> Option<usize>
         requires there { end ≤ length self.now.items }
@@ -75,7 +75,7 @@ impl Trees {
         self.index.next_root(level, from, end)
     }
 
-    /// Tells the levels of which any root of a space has a free leaf, as bits.
+    /// Returns the levels of which any root of a space has a free leaf, as bits.
     pub(crate) fn free_levels(&self, space: Space) -> u16
         ensures { LeaveNone result space self.now.items }
     {
@@ -83,7 +83,7 @@ impl Trees {
     }
 }
 
-/// Tells the owner of the chunk in which a word lies, if it lies in one.
+/// Returns the owner of the chunk in which a word lies, if it lies in one.
 pub(crate) fn holder(trees: &Trees, word: u64) -> Option<u32>
     requires { All AreLeaves trees.now.items }
     ensures { result ≡ owner_at (loans_from 0 trees.now.items) word }

@@ -102,7 +102,7 @@ fn put_arena(line: &mut Line, arena: &ArenaTotals)
     line.put_right(COUNT, u64::from(arena.chunks));
 }
 
-/// Tells the word of a space, right in its column.
+/// Returns the word of a space, right in its column.
 fn space_cell(space: Space) -> &'static str
     ensures cell { result.now ≡ right_in 11 (space_text space) }
     ensures long { length result.now ≡ 11 }

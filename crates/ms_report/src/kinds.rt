@@ -70,7 +70,7 @@ const NONE: KindTotals = KindTotals {
 const HEADINGS: &str =
     "Kinds\n          kind  loaders  chunks  capacity    fronts      used      live  free blocks     waste\n";
 
-/// Tells how much the loaders of each kind hold, over both spaces.
+/// Returns how much the loaders of each kind hold, over both spaces.
 pub fn sum_kinds(loaders: &[LoaderDetails]) -> Kinds
     ensures { result ≡ kinds_of (map loader_in loaders.now) }
 {
@@ -95,7 +95,7 @@ fn sum_one(kind: Kind, loaders: &[LoaderDetails]) -> KindTotals
     totals
 }
 
-/// Tells whether two kinds are the same.
+/// Returns whether two kinds are the same.
 fn is_same(kind: Kind, other: Kind) -> bool
     ensures { result ≡ same_kind kind other }
 {
@@ -190,7 +190,7 @@ fn push_sums(text: &mut String, totals: &KindTotals) -> Result<(), AllocError>
     push_wides(text, &columns)
 }
 
-/// Tells the word of a kind, right in its column.
+/// Returns the word of a kind, right in its column.
 pub(crate) fn kind_cell(kind: Kind) -> &'static str
     ensures cell { result.now ≡ right_in 12 (kind_text kind) }
     ensures long { length result.now ≡ 12 }

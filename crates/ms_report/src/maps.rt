@@ -91,7 +91,7 @@ pub fn push_letters(text: &mut String, places: &[Place]) -> Result<(), AllocErro
     Ok(())
 }
 
-/// Tells the letter of a place.
+/// Returns the letter of a place.
 fn letter(place: Place) -> &'static str
     ensures { result.now ≡ letter place }
 {

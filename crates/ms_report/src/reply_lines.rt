@@ -99,7 +99,7 @@ fn push_refusal(
     push_cut(text, piece, len)
 }
 
-/// Tells what follows the number on the line of a refusal, its name without its numbers: a piece,
+/// Returns what follows the number on the line of a refusal, its name without its numbers: a piece,
 /// and how many of its bytes that is.
 fn refused(refusal: Refusal) -> (&'static [u8; 24], usize)
     ensures text { take result.1 result.0.now ≡ codes " refused " ++ (name_of refusal ++ codes "\n") }

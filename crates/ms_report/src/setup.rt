@@ -39,7 +39,7 @@ fn push_setting_rows(text: &mut String, settings: &Settings) -> Result<(), Alloc
     push_number_lines(text, &rows)
 }
 
-/// Tells the line of the policy.
+/// Returns the line of the policy.
 fn policy_row(policy: Policy) -> &'static str
     ensures { result.now ≡ policy_line policy }
 {

@@ -65,7 +65,7 @@ struct Words {
     waste: u128,
 }
 
-/// Tells how much of the memory is what, of totals of a run with these settings.
+/// Returns how much of the memory is what, of totals of a run with these settings.
 pub fn weigh(totals: &Totals, settings: &Settings) -> Usages
     ensures { result ≡ usages_of settings.now (sums_in totals.now) }
 {
@@ -79,7 +79,7 @@ pub fn weigh(totals: &Totals, settings: &Settings) -> Usages
     }
 }
 
-/// Tells the words of a space.
+/// Returns the words of a space.
 fn words_in(space: &SpaceTotals) -> Words
     ensures words { result ≡ words_of (space_in space.now) }
     ensures small { AreSmall (2 ^ 64) result }

@@ -139,7 +139,7 @@ fn put_reply<S: AnswerSink>(line: u32, reply: &Reply, sink: &mut S) -> Result<()
     })
 }
 
-/// Tells the words in use of the loader whose tops a step may move, and 0 where it moves none, or
+/// Returns the words in use of the loader whose tops a step may move, and 0 where it moves none, or
 /// where they aren't counted.
 #[inline(always)]
 fn used_by(counts: bool, system: &System, step: &Step) -> u64

@@ -21,8 +21,8 @@ pub trait Gate {
         requires { told self.now (Before worker line) }
         ensures { told self.now (After worker line used) };
 
-    /// Tells whether `after` looks at the words in use. Where it doesn't, a worker needn't count or
-    /// read them and tells 0.
+    /// Returns whether `after` reads the words in use. Where it doesn't, a worker needn't count
+    /// or read them and passes 0.
     fn looks(&self) -> bool {
         true
     }

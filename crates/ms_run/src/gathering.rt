@@ -133,7 +133,7 @@ pub fn put_loader(name: u16, loader: Loader, others: &mut Loaders) -> Result<(),
     }
 }
 
-/// Tells the fault that a refusal at the end of a phase is.
+/// Returns the fault that a refusal at the end of a phase is.
 pub fn fault_of(refusal: Refusal) -> RunFault
     requires { IsWantOrUnsettled refusal }
     ensures { refusal ≡ Refusal.OutOfMemory → result ≡ RunFault.OutOfMemory }

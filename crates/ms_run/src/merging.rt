@@ -48,7 +48,7 @@ pub fn merge<S: AnswerSink>(
     Ok(())
 }
 
-/// Tells which share has a line's reply; a line that asks no step goes where purges go.
+/// Returns which share has a line's reply; a line that asks no step goes where purges go.
 fn place_of(turn: &Turn, line: &Line) -> usize
     ensures place { (step : Asked) → step_of line.now.command ≡ Some step
         → result ≡ place_in turn.now (loader_of step) }

@@ -2,7 +2,7 @@
 //! most.
 //!
 //! Kept true: each number is what some state so far had, and none had more. Reads counters alone,
-//! and looks at no chunk and no loader. Takes no memory; nothing waits.
+//! and visits no chunk and no loader. Takes no memory; nothing waits.
 ghost use Rattle.std.specs.Prelude.{◌≡◌, [], ◌∷◌, List, max, true};
 ghost use Rattle.std.specs.Option.{is_some};
 ghost use Rattle.ms_base.specs.State.{Machine};
@@ -36,7 +36,7 @@ pub fn raise(peaks: &mut Option<Peaks>, system: &System, used: u64)
     }
 }
 
-/// Tells what a system has of each thing; so many words are in use.
+/// Returns what a system has of each thing; so many words are in use.
 fn usage(system: &System, used: u64) -> Peaks
     requires { used ≡ used_words_of system.now }
     ensures { result ≡ usage_of system.now }
@@ -50,7 +50,7 @@ fn usage(system: &System, used: u64) -> Peaks
     }
 }
 
-/// Tells the greater of both, number by number.
+/// Returns the greater of both, number by number.
 fn greater(peaks: Peaks, now: Peaks) -> Peaks
     ensures granules { result.granules ≡ max peaks.granules now.granules }
     ensures nodes { result.nodes ≡ max peaks.nodes now.nodes }

@@ -145,7 +145,7 @@ fn end_shares(
     Ok((system, amount))
 }
 
-/// Ends the phase's meter, to which all seats are given back, and tells what they sum to.
+/// Ends the phase's meter, to which all seats are given back, and returns what they sum to.
 fn close(meter: UsedMeter, seats: Vec<MeterSeat>) -> Result<u64, RunFault>
     requires own { All (λ (seat : MeterSeatState). seat.id ≡ meter.id) seats.items }
     requires count { meter.seats ≡ vec_len seats }

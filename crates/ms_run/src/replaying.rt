@@ -194,7 +194,7 @@ fn end_phase<S: AnswerSink>(
     Ok(())
 }
 
-/// Tells how many of the first lines ask steps, up to one that asks none.
+/// Returns how many of the first lines ask steps, up to one that asks none.
 fn steps_first(lines: &[Line]) -> usize
     ensures within { result ≤ length lines.now }
     ensures steps { AreSteps (take result lines.now) }

@@ -112,7 +112,7 @@ impl Turn {
         self.phase = (self.phase + 1) % self.workers;
     }
 
-    /// Tells how many shares there are, 1 to 8.
+    /// Returns how many shares there are, 1 to 8.
     pub fn shares(&self) -> usize
         ensures count { result ≡ shares_in self.now }
         ensures turn { IsTurn self.now }
@@ -120,14 +120,14 @@ impl Turn {
         self.active.len()
     }
 
-    /// Tells the worker of a share; 0 where there is no such share.
+    /// Returns the worker of a share; 0 where there is no such share.
     pub fn worker(&self, place: usize) -> usize
         ensures { result ≡ slice_index_or self.now.active place 0 }
     {
         entry(self.active.as_slice(), place)
     }
 
-    /// Tells which share has the lines of a loader, or of a purge.
+    /// Returns which share has the lines of a loader, or of a purge.
     pub fn place(&self, name: Option<u16>) -> usize
         ensures place { result ≡ place_in self.now name }
         ensures within { result < shares_in self.now }
@@ -137,7 +137,7 @@ impl Turn {
     }
 }
 
-/// Tells the loader that a step names; a purge names none.
+/// Returns the loader that a step names; a purge names none.
 pub fn loader_named(step: &Step) -> Option<u16>
     ensures { result ≡ loader_of step.now }
 {
@@ -173,7 +173,7 @@ fn first_of(first: &[u8], name: u16) -> usize
     }
 }
 
-/// Tells the worker of a loader's lines in a phase, or of a purge.
+/// Returns the worker of a loader's lines in a phase, or of a purge.
 fn worker_at(first: &[u8], phase: usize, workers: usize, name: Option<u16>) -> usize
     requires some { 1 ≤ workers }
     requires phase { phase < workers }
@@ -186,7 +186,7 @@ fn worker_at(first: &[u8], phase: usize, workers: usize, name: Option<u16>) -> u
     }
 }
 
-/// Tells the worker of each name in phase 0: names in the order of their first lines go to the
+/// Returns the worker of each name in phase 0: names in the order of their first lines go to the
 /// workers by turns. Takes memory.
 fn first_workers(alloc: Global, workers: usize, lines: &[Line]) -> Result<Vec<u8>, AllocError>
     requires some { 1 ≤ workers }
@@ -201,8 +201,8 @@ fn first_workers(alloc: Global, workers: usize, lines: &[Line]) -> Result<Vec<u8
     Ok(first)
 }
 
-/// Gives the loader that a line names the next worker, where it has none yet, and tells the worker
-/// that comes next.
+/// Gives the loader that a line names the next worker, where it has none yet, and returns the
+/// worker that comes next.
 fn number(first: &mut [u8], line: &Line, workers: usize, next: usize) -> usize
     requires below { next < workers }
     requires few { workers ≤ 8 }
@@ -221,7 +221,7 @@ fn number(first: &mut [u8], line: &Line, workers: usize, next: usize) -> usize
     next
 }
 
-/// Gives a name its worker where it has none yet, and tells whether it had none.
+/// Gives a name its worker where it has none yet, and returns whether it had none.
 fn assign(first: &mut [u8], name: Option<u16>, worker: u8) -> bool
     requires names { length first.old ≡ 65536 }
     ensures names { length first.new ≡ length first.old }

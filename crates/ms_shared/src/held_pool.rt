@@ -107,8 +107,8 @@ impl HeldSeat {
         HeldPool { shared, seat, pool }
     }
 
-    /// Tells whether a granule is committed, by its number over both spaces; past their end none
-    /// is. Takes no memory, and looks at no chunk.
+    /// Returns whether a granule is committed, by its number over both spaces; past their end none
+    /// is. Takes no memory, and visits no chunk.
     pub fn is_committed(&self, granule: u64) -> bool
         ensures { result ≡ is_among (self.now.pool.committed ++ self.now.pool.class_committed) granule }
     {

@@ -283,7 +283,7 @@ impl SharedPool {
     }
 }
 
-/// Tells the pool, once all seats have become one.
+/// Returns the pool, once all seats have become one.
 fn gathered(
     table: Table<Option<Pool>, LockView, LockKey, Locked, Global>,
     mut seats: Vec<PoolSeat>,

@@ -116,7 +116,7 @@ impl UsedMeter {
             .fetch_sub::<Subtracts>(&mut seat.seat, 0, words);
     }
 
-    /// Tells the meter's words as it reads them, by one atomic step: the sum of all amounts at
+    /// Returns the meter's words as it reads them, by one atomic step: the sum of all amounts at
     /// that moment, modulo 2^64, of which no clause can speak. Takes no memory and no lock. This
     /// project's choice.
     pub fn now(&self, seat: &mut MeterSeat) -> u64
@@ -126,8 +126,8 @@ impl UsedMeter {
         self.table.shared.load::<Looks>(&mut seat.seat, 0)
     }
 
-    /// Ends the meter and tells the sum of the amounts, modulo 2^64. Refused with `Unsettled`, the
-    /// numbers of seats made and given, exactly where not all seats are given; then meter and
+    /// Ends the meter and returns the sum of the amounts, modulo 2^64. Refused with `Unsettled`,
+    /// the numbers of seats made and given, exactly where not all seats are given; then meter and
     /// seats are handed back as they were. Takes no memory and no lock. This project's choice.
     pub fn close(self, seats: Vec<MeterSeat>) -> Result<u64, (Refusal, UsedMeter, Vec<MeterSeat>)>
         requires { All (λ seat. seat.id ≡ self.id) seats.items }
@@ -151,7 +151,7 @@ impl UsedMeter {
     }
 }
 
-/// Tells the word, once all seats have become one.
+/// Returns the word, once all seats have become one.
 fn gathered(table: Table<u8, MeterView, usize, Metered, Global>, mut seats: Vec<MeterSeat>) -> u64
     requires made { table.shared.key ≡ vec_len seats }
     requires words { table.shared.table_id.words ≡ 1 }

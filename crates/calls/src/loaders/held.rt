@@ -110,7 +110,7 @@ impl Places for Held {
     }
 }
 
-/// Tells the places that the loaders have, loader by loader.
+/// Prints the places that the loaders have, loader by loader.
 pub(crate) fn tell_all_places(rt: &HostRuntime, loaders: &mut Loaders) -> io::Result<()> {
     for _ in 0..MOST_LOADERS {
         if let Some((name, loader)) = loaders.pop_first() {
@@ -121,7 +121,7 @@ pub(crate) fn tell_all_places(rt: &HostRuntime, loaders: &mut Loaders) -> io::Re
     Ok(())
 }
 
-/// Tells the places that a loader has.
+/// Prints the places that a loader has.
 fn tell_held(rt: &HostRuntime, loader: Loader) -> io::Result<()> {
     let mut held = Held {
         loader,
@@ -133,7 +133,7 @@ fn tell_held(rt: &HostRuntime, loader: Loader) -> io::Result<()> {
     told
 }
 
-/// Tells the places that a loader has, in each space.
+/// Prints the places that a loader has, in each space.
 fn tell_both(rt: &HostRuntime, held: &mut Held) -> io::Result<()> {
     tell_places(rt, held)?;
     held.space = Space::Class;

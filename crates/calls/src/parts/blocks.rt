@@ -7,7 +7,7 @@ use ms_blocks::FreeBlocks;
 use std::alloc::Global;
 use std::io;
 
-/// Tells the row.
+/// Prints the row.
 pub(crate) fn tell_all(rt: &HostRuntime) -> io::Result<()> {
     let mut blocks = FreeBlocks::new(rt.alloc());
     if blocks.reserve(3).is_err() {
@@ -42,7 +42,7 @@ fn tell_removed(rt: &HostRuntime, blocks: &mut FreeBlocks, words: u64) {
     tell_blocks(rt, blocks);
 }
 
-/// Tells how many blocks are kept, their words, and the room for more.
+/// Prints how many blocks are kept, their words, and the room for more.
 fn tell_blocks(rt: &HostRuntime, blocks: &FreeBlocks) {
     line(
         rt,

@@ -7,7 +7,7 @@ use ms_base::Refusal;
 use ms_commit::Nodes;
 use std::io;
 
-/// Tells the row.
+/// Prints the row.
 pub(crate) fn tell_all(rt: &HostRuntime) -> io::Result<()> {
     mark(rt, "nodes");
     let mut nodes = Nodes::new(1, 3, 8192, 1);
@@ -57,7 +57,7 @@ fn uncommit(nodes: &mut Nodes, first: u64, count: u64) -> bool {
     true
 }
 
-/// Tells whether a range lies in reserved slots, of which it meets two at most.
+/// Prints whether a range lies in reserved slots, of which it meets two at most.
 fn lies_in_reserved(nodes: &Nodes, first: u64, count: u64) -> bool
     ensures { IsTrue result → AreInReserved nodes.now first count }
 {
@@ -68,7 +68,7 @@ fn lies_in_reserved(nodes: &Nodes, first: u64, count: u64) -> bool
     nodes.is_reserved((first / 128) as u32) && nodes.is_reserved((last / 128) as u32)
 }
 
-/// Tells what is reserved and committed, and the limits.
+/// Prints what is reserved and committed, and the limits.
 fn tell_nodes(rt: &HostRuntime, nodes: &Nodes) {
     let slots = (nodes.reserved(), nodes.node_limit(), nodes.class_slots());
     line(rt, "nodes slots", &slots);

@@ -5,7 +5,7 @@ use crate::row::{line, mark};
 use ms_base::{Kind, Level, Policy, Space, granule, growth, level_for};
 use std::io;
 
-/// Tells the row.
+/// Prints the row.
 pub(crate) fn tell_all(rt: &HostRuntime) -> io::Result<()> {
     mark(rt, "sizes");
     for number in 0..13 {
@@ -23,7 +23,7 @@ pub(crate) fn tell_all(rt: &HostRuntime) -> io::Result<()> {
     Ok(())
 }
 
-/// Tells the words of a level.
+/// Prints the words of a level.
 fn tell_level(rt: &HostRuntime, number: u8)
     requires { number ≤ 12 }
 {
@@ -31,7 +31,7 @@ fn tell_level(rt: &HostRuntime, number: u8)
     line(rt, "sizes level", &(level.number(), level.words()));
 }
 
-/// Tells the levels of a loader's first chunks.
+/// Prints the levels of a loader's first chunks.
 fn tell_growth(rt: &HostRuntime, kind: Kind) {
     for chunks in 0..5 {
         let level = growth(kind, Space::NonClass, chunks);

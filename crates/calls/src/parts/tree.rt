@@ -11,7 +11,7 @@ use std::alloc::Global;
 use std::fmt::Debug;
 use std::io;
 
-/// Tells the row of a table of parts.
+/// Prints the row of a table of parts.
 pub(crate) fn tell_all(rt: &HostRuntime) -> io::Result<()> {
     let Ok(mut table) = lending::<PartTable<Global>>(rt.alloc()) else {
         return Err(unprepared());
@@ -30,7 +30,7 @@ pub(crate) fn tell_all(rt: &HostRuntime) -> io::Result<()> {
     Ok(())
 }
 
-/// Tells the row of a tree in boxes.
+/// Prints the row of a tree in boxes.
 pub(crate) fn tell_boxes(rt: &HostRuntime) -> io::Result<()> {
     let Ok(mut tree) = lending::<SplitTree<Global>>(rt.alloc()) else {
         return Err(unprepared());
@@ -49,7 +49,7 @@ pub(crate) fn tell_boxes(rt: &HostRuntime) -> io::Result<()> {
     Ok(())
 }
 
-/// Tells a fact of a row on a line of its own.
+/// Prints a fact of a row on a line of its own.
 fn tell_fact<F: Debug>(rt: &HostRuntime, row: &str, about: &str, fact: &F) {
     let _ = print!(rt; "{row} ");
     line(rt, about, fact);
@@ -82,7 +82,7 @@ fn lent_at<T: RootChunkArea<Global>>(area: &T, offset: u64) -> Option<Span>
     }
 }
 
-/// Makes the front of the leaf there as large as the leaf, and tells how large.
+/// Makes the front of the leaf there as large as the leaf, and prints how large.
 fn set_front<T: RootChunkArea<Global>>(area: &mut T, offset: u64) -> Option<u64>
     requires { offset < ROOT_WORDS }
 {
@@ -92,7 +92,7 @@ fn set_front<T: RootChunkArea<Global>>(area: &mut T, offset: u64) -> Option<u64>
     Some(words)
 }
 
-/// Tells whether the leaf there can become its parent.
+/// Prints whether the leaf there can become its parent.
 fn can_enlarge(table: &PartTable<Global>, offset: u64) -> Option<bool>
     requires { offset < ROOT_WORDS }
 {
@@ -117,7 +117,7 @@ fn release<T: RootChunkArea<Global>>(area: &mut T, offset: u64) -> Option<Span>
     Some(area.release(span))
 }
 
-/// Tells the leaves of a tree in boxes, and whether it is whole.
+/// Prints the leaves of a tree in boxes, and whether it is whole.
 fn tell_leaves(rt: &HostRuntime, row: &str, tree: &SplitTree<Global>) {
     tell_some(rt, row, tree);
     tell_fact(rt, row, "is whole", &tree.is_whole());
@@ -126,14 +126,14 @@ fn tell_leaves(rt: &HostRuntime, row: &str, tree: &SplitTree<Global>) {
     }
 }
 
-/// Tells the leaves at some offsets.
+/// Prints the leaves at some offsets.
 fn tell_some<T: RootChunkArea<Global>>(rt: &HostRuntime, row: &str, area: &T) {
     for offset in [0, 128, 512] {
         tell_fact(rt, row, "leaf", &area.leaf_at(offset));
     }
 }
 
-/// Tells the leaves of a table and what the searches find.
+/// Prints the leaves of a table and what the searches find.
 fn tell_table(rt: &HostRuntime, table: &PartTable<Global>) {
     tell_some(rt, "tree", table);
     let level = Level::new(10);

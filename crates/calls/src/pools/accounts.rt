@@ -10,7 +10,7 @@ use ms_pool::{Account, ChunkSource, Pool};
 use std::alloc::Global;
 use std::io;
 
-/// Tells the row.
+/// Prints the row.
 pub(crate) fn tell_all(rt: &HostRuntime) -> io::Result<()> {
     let (mut pool, account) = lent(rt.alloc())?;
     mark(rt, "accounts");
@@ -67,7 +67,7 @@ fn grow(pool: &mut Pool, account: &mut Account) -> Option<Result<Span, Refusal>>
     Some(ChunkSource::grow(pool, account, chunk.start, total, true))
 }
 
-/// Tells the first chunk of an account.
+/// Prints the first chunk of an account.
 pub(crate) fn first_chunk(account: &Account) -> Option<Chunk>
     ensures { IfSome result
         (λ chunk. IsTrue (has_chunk_at account.now.chunks chunk.start)) }
@@ -126,7 +126,7 @@ fn close_both(pool: &mut Pool, account: Account, class_account: Account)
     pool.close_both(account, class_account);
 }
 
-/// Tells a pool: its sums, what counts beside the limits, and who holds some words.
+/// Prints a pool: its sums, what counts beside the limits, and who holds some words.
 fn tell_pool(rt: &HostRuntime, pool: &Pool) {
     line(rt, "accounts sums", &pool.all_totals(Space::NonClass));
     line(

@@ -14,7 +14,7 @@ use std::alloc::Global;
 use std::io;
 use std::sync::Wait;
 
-/// Tells the row.
+/// Prints the row.
 pub(crate) fn tell_all<R: Wait>(rt: &HostRuntime, waits: &R) -> io::Result<()> {
     let mut both = Vec::with_capacity(rt.alloc(), 2)?;
     let (lock, one, mut other, mut account) = prepared(rt.alloc(), waits)?;
@@ -84,7 +84,7 @@ fn seated(alloc: Global) -> io::Result<(SharedPool, PoolSeat, PoolSeat)>
     }
 }
 
-/// Tells the sums of a pool that was taken out of its lock.
+/// Prints the sums of a pool that was taken out of its lock.
 fn tell_taken(rt: &HostRuntime, taken: &Result<Pool, (Refusal, SharedPool, Vec<PoolSeat>)>) {
     match taken {
         Ok(pool) => {

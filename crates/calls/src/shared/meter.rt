@@ -9,7 +9,7 @@ use ms_shared::{MeterSeat, UsedMeter};
 use std::alloc::Global;
 use std::io;
 
-/// Tells the row.
+/// Prints the row.
 pub(crate) fn tell_all(rt: &HostRuntime) -> io::Result<()> {
     let mut both = Vec::with_capacity(rt.alloc(), 2)?;
     let (meter, mut seats) = UsedMeter::new(rt.alloc(), 2)?;
@@ -55,7 +55,7 @@ fn tell_refused(rt: &HostRuntime, meter: UsedMeter, none: Vec<MeterSeat>) -> Opt
     }
 }
 
-/// Tells the sum of a meter that is closed.
+/// Prints the sum of a meter that is closed.
 fn tell_closed(rt: &HostRuntime, closed: &Result<u64, (Refusal, UsedMeter, Vec<MeterSeat>)>) {
     match closed {
         Ok(words) => line(rt, "counter sum", words),

@@ -75,7 +75,7 @@ pub(crate) fn grown<R: Wait>(
     pool.into_seat()
 }
 
-/// Tells the sums over an account's space, and closes the account.
+/// Prints the sums over an account's space, and closes the account.
 pub(crate) fn closed<R: Wait>(
     rt: &HostRuntime,
     waits: &R,

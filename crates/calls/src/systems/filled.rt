@@ -89,7 +89,7 @@ pub(crate) fn filled(alloc: Global, more: &[Step]) -> io::Result<System> {
     Err(unprepared())
 }
 
-/// Takes steps, and tells whether none was refused.
+/// Takes steps, and prints whether none was refused.
 fn is_served(system: &mut System, steps: &[Step]) -> bool {
     for step in steps {
         if let Reply::Refused(_) = system.step(*step) {
@@ -99,7 +99,7 @@ fn is_served(system: &mut System, steps: &[Step]) -> bool {
     true
 }
 
-/// Tells the sums of a system with loaders and blocks, with details and peaks.
+/// Prints the sums of a system with loaders and blocks, with details and peaks.
 pub(crate) fn filled_totals(alloc: Global, more: &[Step]) -> io::Result<Totals> {
     let system = filled(alloc, more)?;
     let totals = detailed_totals(&system);
@@ -107,7 +107,7 @@ pub(crate) fn filled_totals(alloc: Global, more: &[Step]) -> io::Result<Totals> 
     Ok(totals?)
 }
 
-/// Tells the sums of a system, with its details and with peaks.
+/// Prints the sums of a system, with its details and with peaks.
 fn detailed_totals(system: &System) -> Result<Totals, AllocError> {
     let mut totals = system.totals()?;
     totals.peaks = Some(PEAKS);
@@ -115,8 +115,8 @@ fn detailed_totals(system: &System) -> Result<Totals, AllocError> {
     Ok(totals)
 }
 
-/// Tells sums: those over each space, the row of each loader, the peaks and the details where there
-/// are some.
+/// Prints sums: those over each space, the row of each loader, the peaks and the details where
+/// there are some.
 pub(crate) fn tell_totals(rt: &HostRuntime, totals: &Totals) {
     tell(rt, &totals.loaders);
     tell(rt, &totals.space);
@@ -130,7 +130,7 @@ pub(crate) fn tell_totals(rt: &HostRuntime, totals: &Totals) {
     }
 }
 
-/// Tells the sums of each loader in each space, and the maps of roots.
+/// Prints the sums of each loader in each space, and the maps of roots.
 pub(crate) fn tell_details(rt: &HostRuntime, details: &Details) {
     tell(rt, &details.loaders);
     tell(rt, &details.roots);

@@ -30,7 +30,7 @@ const STEPS: [Step; 5] = [
     Step::Purge,
 ];
 
-/// Tells the row.
+/// Prints the row.
 pub(crate) fn tell_all(rt: &HostRuntime) -> io::Result<()> {
     let mut system = filled(rt.alloc(), &HIDDEN)?;
     mark(rt, "system");
@@ -62,7 +62,7 @@ fn settled(alloc: Global, system: System) -> Option<System> {
     System::settle(alloc, pool, loaders).ok()
 }
 
-/// Tells a system that was settled: a loader is unloaded, twice, and one is held back.
+/// Prints a system that was settled: a loader is unloaded, twice, and one is held back.
 fn tell_settled(rt: &HostRuntime, settled: Option<System>) {
     let Some(mut system) = settled else {
         return line(rt, "system settled", &"none");
@@ -93,7 +93,7 @@ fn tell_held_back(rt: &HostRuntime, system: System) {
     }
 }
 
-/// Tells what comes back of a system whose loader is held back: all parts.
+/// Prints what comes back of a system whose loader is held back: all parts.
 fn tell_left(rt: &HostRuntime, settled: &Result<System, (Refusal, Pool, Loaders)>) {
     match settled {
         Ok(_) => line(rt, "system settled", &"without a loader"),
@@ -104,7 +104,7 @@ fn tell_left(rt: &HostRuntime, settled: &Result<System, (Refusal, Pool, Loaders)
     }
 }
 
-/// Tells a loader that is held back: its kind, and its accounts.
+/// Prints a loader that is held back: its kind, and its accounts.
 fn tell_parted(rt: &HostRuntime, loader: Loader) {
     line(rt, "system without", &loader.kind());
     let (account, class_account) = loader.into_accounts();
@@ -112,7 +112,7 @@ fn tell_parted(rt: &HostRuntime, loader: Loader) {
     account_lines(rt, "system account", &class_account);
 }
 
-/// Tells a system: its sums and counts, and those of some loaders and words.
+/// Prints a system: its sums and counts, and those of some loaders and words.
 fn tell_system(rt: &HostRuntime, system: &System) {
     line(
         rt,

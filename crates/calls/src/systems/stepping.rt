@@ -8,7 +8,7 @@ use ms_trace::{Command, Trace};
 use std::alloc::Global;
 use std::io::{self, ErrorKind};
 
-/// Reads the trace and tells the row, with as many granules for the limit as a word says.
+/// Reads the trace and prints the row, with as many granules for the limit as a word says.
 pub(crate) fn tell_all(rt: &HostRuntime, word: &str) -> io::Result<()> {
     let settings = settings_of(word)?;
     let trace = read_trace(rt)?;
@@ -45,8 +45,8 @@ fn steps_of(alloc: Global, trace: &Trace) -> io::Result<Vec<Step>> {
     Ok(steps)
 }
 
-/// Has a new system run the steps, and tells the lines' answers and what is left, each by its word;
-/// answers whether memory was wanted.
+/// Has a new system run the steps, and prints the lines' answers and what is left, each by its
+/// word; returns whether memory was wanted.
 fn tell_run(
     rt: &HostRuntime,
     words: [&str; 2],
@@ -67,7 +67,7 @@ fn tell_run(
     Ok(is_wanted)
 }
 
-/// Tells the reply to each line; answers whether memory was wanted.
+/// Prints the reply to each line; returns whether memory was wanted.
 fn tell_replies(rt: &HostRuntime, word: &str, trace: &Trace, replies: &[Reply]) -> bool {
     let mut wanted = false;
     for (line, reply) in trace.lines.as_slice().iter().zip(replies) {
@@ -77,7 +77,7 @@ fn tell_replies(rt: &HostRuntime, word: &str, trace: &Trace, replies: &[Reply]) 
     wanted
 }
 
-/// Tells what a system holds: the sums over its pool, and of each loader the sums and the chunks.
+/// Prints what a system holds: the sums over its pool, and of each loader the sums and the chunks.
 fn tell_left(rt: &HostRuntime, word: &str, system: System) {
     let _ = print!(rt; "steps {word}");
     let (pool, loaders) = system.into_parts();
@@ -91,7 +91,7 @@ fn tell_left(rt: &HostRuntime, word: &str, system: System) {
     let _ = println!(rt; "");
 }
 
-/// Tells a loader: its kind, its sums, and its chunks.
+/// Prints a loader: its kind, its sums, and its chunks.
 fn tell_loader(rt: &HostRuntime, loader: &Loader) {
     let (sums, _) = loader.totals();
     tell(rt, &(loader.kind(), sums));

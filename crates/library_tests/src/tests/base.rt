@@ -94,7 +94,7 @@ fn the_last_entry_of_a_growth_table_repeats(rt: HostRuntime) {
     same(&rt, &told, &wanted);
 }
 
-/// Tells whether a refusal says a text.
+/// Returns whether a refusal says a text.
 fn says(alloc: Global, refusal: &Refusal, text: &str) -> Result<bool, AllocError> {
     let said = format!(in alloc; "{refusal}")?;
     Ok(said.as_str() == text)

@@ -48,7 +48,7 @@ fn ask(nodes: &mut Nodes, call: Call) -> Answer {
     }
 }
 
-/// Tells whether a range of granules lies in reserved slots, of which it meets two at most.
+/// Returns whether a range of granules lies in reserved slots, of which it meets two at most.
 fn lies_in_reserved(nodes: &Nodes, first: u64, count: u64) -> bool
     ensures { IsTrue result → AreInReserved nodes.now first count }
 {

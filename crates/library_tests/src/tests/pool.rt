@@ -99,7 +99,7 @@ fn grow(
     told(rt, account, answer)
 }
 
-/// Tells where the chunk at a place of the account starts.
+/// Returns where the chunk at a place of the account starts.
 fn start_at(account: &Account, place: u32) -> u64
     requires { place < length account.now.chunks }
     ensures { IsTrue (has_chunk_at account.now.chunks result) }
@@ -108,7 +108,7 @@ fn start_at(account: &Account, place: u32) -> u64
     chunk.start
 }
 
-/// Tells the account's own chunk of the span that was answered.
+/// Returns the account's own chunk of the span that was answered.
 fn told(rt: &impl Abort, account: &Account, answer: Result<Span, Refusal>) -> Answer {
     let span = answer?;
     for place in 0..account.held() {

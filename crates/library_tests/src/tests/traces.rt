@@ -89,7 +89,7 @@ const TEXT: &[u8] = b"\nnew 7 reflection\nalloc 7 0 18446744073709551615\ncalloc
     write 7 0 18446744073709551615 2\nread 7 0 1\nfree 7 0\nunload 65535\npurge\nsync\n\n\
     report\n";
 
-/// Tells whether a text reads as a trace.
+/// Returns whether a text reads as a trace.
 fn reads_as(alloc: Global, text: &[u8], trace: &Trace) -> Result<bool, ParseFault> {
     let back = parse(alloc, text)?;
     let is_same = back.lines.as_slice() == trace.lines.as_slice();
@@ -114,7 +114,7 @@ fn a_trace_is_printed_with_its_gaps(rt: HostRuntime) {
     same(&rt, &told, &(true, true));
 }
 
-/// Tells whether lines of these numbers may be printed, where there is memory for them.
+/// Returns whether lines of these numbers may be printed, where there is memory for them.
 fn rises(alloc: Global, first: u32, second: u32) -> Option<bool> {
     let lines = [(first, Command::Step(Step::Purge)), (second, Command::Sync)];
     let trace = trace_of(alloc, lines.as_slice()).ok()?;

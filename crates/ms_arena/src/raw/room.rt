@@ -19,14 +19,14 @@ const SMALL_TOPS: usize = 64;
 const SMALL_PAGES: usize = 4;
 
 impl RawArena {
-    /// Tells whether many blocks are to come: a loader of one hidden class or of one reflection
+    /// Returns whether many blocks are to come: a loader of one hidden class or of one reflection
     /// stub takes a few, others take many. A hint for how much room to make at once, of which
     /// nothing is promised. Takes no memory. This project's choice.
     pub fn expects_many(&self) -> bool {
         self.kind != Kind::Hidden && self.kind != Kind::Reflection
     }
 
-    /// Tells whether the arena's memory is small: some 25 KiB, its chunks aside, and the table of
+    /// Returns whether the arena's memory is small: some 25 KiB, its chunks aside, and the table of
     /// pages, which is longer where a page far on was written. A hint to whoever keeps arenas to be
     /// renewed, of which nothing is promised. Takes no memory. This project's choice; HotSpot's
     /// arenas are memory themselves.

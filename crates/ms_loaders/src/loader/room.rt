@@ -5,7 +5,7 @@ use super::Loader;
 const SMALL_NAMES: usize = 256;
 
 impl Loader {
-    /// Tells whether the loader's memory is small, as that of its arenas is. A hint, of which
+    /// Returns whether the loader's memory is small, as that of its arenas is. A hint, of which
     /// nothing is promised.
     pub(crate) fn is_small(&self) -> bool {
         self.arena.is_small() && self.class_arena.is_small() && self.names.capacity() <= SMALL_NAMES

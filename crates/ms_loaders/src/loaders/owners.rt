@@ -46,7 +46,7 @@ impl Owners {
         }
     }
 
-    /// Tells the name that was noted of an owner number, if one was.
+    /// Returns the name that was noted of an owner number, if one was.
     pub(super) fn get(&self, owner: u32) -> Option<u16> {
         if let Ok(at) = self.rising.binary_search_by_key(&owner, |note| note.owner) {
             return Some(self.rising[at].name);
@@ -87,7 +87,7 @@ impl Owners {
         }
     }
 
-    /// Tells whether an owner number is greater than all of the list.
+    /// Returns whether an owner number is greater than all of the list.
     fn rises(&self, owner: u32) -> bool {
         match self.rising.last() {
             Some(note) => note.owner < owner,

@@ -78,7 +78,7 @@ impl Page {
         }
     }
 
-    /// Finds the first that stands at a place or further on, and tells where.
+    /// Finds the first that stands at a place or further on, and returns where.
     pub(super) fn next(&self, from: usize) -> Option<(usize, &Boxed)>
         ensures next { IfSome result (λ found. IsNext (in_page self.now) from found.0 found.1.now) }
         ensures within { IfSome result (λ found. found.0 < 256) }

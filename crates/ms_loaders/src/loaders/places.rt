@@ -110,7 +110,7 @@ impl Places {
         }
     }
 
-    /// Finds the first that stands at a number or further on, and tells where. Takes no memory.
+    /// Finds the first that stands at a number or further on, and returns where. Takes no memory.
     pub(super) fn next(&self, from: usize) -> Option<(usize, &Boxed)>
         ensures next { IfSome result
             (λ found. IsNext (placed_at self.now) from found.0 found.1.now) }

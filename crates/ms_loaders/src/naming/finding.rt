@@ -13,8 +13,8 @@ use ms_base::Block;
 use std::collections::HashMap;
 
 impl Names {
-    /// Tells under which name a block stands, if it has one. Takes no memory, and looks at each
-    /// name until it is found, in no order.
+    /// Tells under which name a block stands, if it has one. Takes no memory, and visits each name
+    /// until it is found, in no order.
     pub fn name_of(&self, block: Block) -> Option<u32>
         ensures named { IfSome result (λ name. named self.now.entries name ≡ Some block) }
         ensures none { IfNone result ((name : ℕ) → named self.now.entries name ≢ Some block) }
@@ -78,7 +78,7 @@ fn name_among(
     None
 }
 
-/// Tells whether a name has no block in the row.
+/// Returns whether a name has no block in the row.
 fn lacks(first: usize, row: &[SmallBlock], name: u32) -> bool
     ensures { result ≡ nat_eq (in_row first row.now name).words 0 }
 {

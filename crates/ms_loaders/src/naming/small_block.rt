@@ -35,7 +35,7 @@ impl SmallBlock {
         SmallBlock { start: 0, words: 0 }
     }
 
-    /// Tells whether it stands for none.
+    /// Returns whether it stands for none.
     pub fn is_none(self) -> bool
         ensures { result ≡ nat_eq self.words 0 }
     {
@@ -53,7 +53,7 @@ impl SmallBlock {
         }
     }
 
-    /// Tells the block.
+    /// Returns the block.
     pub fn block(self) -> Block
         ensures { result ≡ self }
     {

@@ -85,12 +85,12 @@ impl Table {
         self.asked = 0;
     }
 
-    /// Tells for how many names there is memory.
+    /// Returns for how many names there is memory.
     pub fn capacity(&self) -> usize {
         self.row.capacity().saturating_add(self.others.capacity())
     }
 
-    /// Tells which block has a name, if one has.
+    /// Returns which block has a name, if one has.
     #[inline(always)]
     pub fn get(&self, name: u32) -> Option<Block>
         ensures { result ≡ block_of self.now name }
@@ -102,7 +102,7 @@ impl Table {
         look_up(&self.others, name)
     }
 
-    /// Makes a place in the row for a name, where it may have one, and tells whether it has; all
+    /// Makes a place in the row for a name, where it may have one, and returns whether it has; all
     /// names stay. Where it hasn't, there may be room ahead beside the row. Tells too whether
     /// memory was refused.
     #[inline(always)]
@@ -212,7 +212,7 @@ impl Table {
         self.count = self.count.wrapping_add(1);
     }
 
-    /// Takes a name out, and tells which block had it, if one had.
+    /// Takes a name out, and returns which block had it, if one had.
     pub fn remove(&mut self, name: u32) -> Option<Block>
         ensures block { result ≡ block_of self.old name }
         ensures names { NamesAnew self.old name None self.new }
@@ -260,7 +260,7 @@ fn make_more_room(others: &mut HashMap<u32, SmallBlock>, many: bool) -> Result<(
     Ok(())
 }
 
-/// Tells whether a name has a place in a row from a first name on.
+/// Returns whether a name has a place in a row from a first name on.
 #[inline(always)]
 fn has_place(first: usize, row: &[SmallBlock], name: u32) -> bool
     ensures place { IsTrue result → HasPlace first row.now name }
@@ -282,7 +282,8 @@ pub(super) fn block_at(first: usize, row: &[SmallBlock], name: u32) -> SmallBloc
     SmallBlock::none()
 }
 
-/// Sets the block of a name in a row from a first name on, and tells whether it has a place there.
+/// Sets the block of a name in a row from a first name on, and returns whether it has a place
+/// there.
 #[inline(always)]
 fn set_block(first: usize, row: &mut [SmallBlock], name: u32, small: SmallBlock) -> bool
     ensures set { IsTrue result
@@ -301,7 +302,7 @@ fn set_block(first: usize, row: &mut [SmallBlock], name: u32, small: SmallBlock)
 }
 
 /// Gives the first names of a row that have a block there that block among the others too, and
-/// tells how many.
+/// returns how many.
 fn hand_over(
     first: usize,
     row: &[SmallBlock],

@@ -54,8 +54,8 @@ impl Edge {
 }
 
 impl System {
-    /// Allocates a block of zeros in a space, as a step does, and tells the run of granules that it
-    /// committed: each that became committed lies in it, and each of it is committed then. Under
+    /// Allocates a block of zeros in a space, as a step does, and returns the run of granules that
+    /// it committed: each that became committed lies in it, and each of it is committed then. Under
     /// the policies balanced and aggressive these are all granules of the run; under none some of
     /// it may have been committed before. Refused as the step is, and then nothing changes. Takes
     /// memory. This project's choice.
@@ -89,7 +89,7 @@ impl System {
     }
 }
 
-/// Tells how many chunks the loader of a name has in a space, and the current one.
+/// Returns how many chunks the loader of a name has in a space, and the current one.
 fn edge_at(loaders: &Loaders, space: Space, name: u16) -> Edge
     ensures edge { IfSome (named loaders.now name)
         (λ loader. IsEdge (arena_of space loader.state).chunks result) }
@@ -101,7 +101,7 @@ fn edge_at(loaders: &Loaders, space: Space, name: u16) -> Edge
     }
 }
 
-/// Tells the same once so many granules came: where none did, nobody asks for it, and none is
+/// Returns the same once so many granules came: where none did, nobody asks for it, and none is
 /// looked for.
 fn edge_after(loaders: &Loaders, space: Space, name: u16, came: u64) -> Edge
     ensures edge { 0 < came → IfSome (named loaders.now name)
@@ -114,7 +114,7 @@ fn edge_after(loaders: &Loaders, space: Space, name: u16, came: u64) -> Edge
     edge_at(loaders, space, name)
 }
 
-/// Tells how many chunks a loader has in a space, and the current one.
+/// Returns how many chunks a loader has in a space, and the current one.
 fn edge_in(loader: &Loader, space: Space) -> Edge
     ensures edge { IsEdge (arena_of space loader.now.state).chunks result }
     ensures small { result.start + result.front < 2 ^ 53 }
@@ -126,7 +126,7 @@ fn edge_in(loader: &Loader, space: Space) -> Edge
     }
 }
 
-/// Tells how many chunks an account holds, and the last one.
+/// Returns how many chunks an account holds, and the last one.
 fn edge_of(account: &Account) -> Edge
     ensures edge { IsEdge account.now.chunks result }
     ensures small { result.start + result.front < 2 ^ 53 }
@@ -143,7 +143,7 @@ fn edge_of(account: &Account) -> Edge
     }
 }
 
-/// Tells the granules of the front now that hold no word of the same chunk's front before.
+/// Returns the granules of the front now that hold no word of the same chunk's front before.
 fn run_between(granule: u64, before: Edge, now: Edge, came: u64) -> GranuleRun
     requires some { 0 < granule }
     requires small { now.start + now.front < 2 ^ 53 }

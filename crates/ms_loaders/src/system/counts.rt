@@ -7,15 +7,15 @@ use super::System;
 use ms_pool::LimitCounts;
 
 impl System {
-    /// Tells what is committed and reserved, in both spaces, beside what may be. Takes no memory,
-    /// and looks at no chunk and no loader.
+    /// Returns what is committed and reserved, in both spaces, beside what may be. Takes no memory,
+    /// and visits no chunk and no loader.
     pub fn counts(&self) -> LimitCounts
         ensures { result
             ≡ limit_counts self.now.slots self.now.committed self.now.class_committed self.now.limits }
     {
         self.pool.counts()
     }
-    /// Tells how many loaders there are, at most 65536. Takes no memory, and looks at none.
+    /// Returns how many loaders there are, at most 65536. Takes no memory, and looks at none.
     pub fn loader_count(&self) -> u64
         ensures { result ≡ length self.now.loaders }
     {

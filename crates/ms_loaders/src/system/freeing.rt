@@ -9,7 +9,7 @@ impl System {
     /// Frees the live block of a loader that lies there, as `free` does by its name, which may then
     /// be used anew. Refused with `NoLoader`, and with `NotLive` exactly where the loader has no
     /// live block that starts there with so many words; then nothing changes. Takes no memory, and
-    /// looks at each of the loader's names until it is found. This project's choice.
+    /// visits each of the loader's names until it is found. This project's choice.
     pub fn free_block(&mut self, name: u16, block: Block) -> Result<(), Refusal>
         ensures freed { OnOk result (FreesThere self.old name block self.new) }
         ensures refused { IfErr result (LacksThere self.old name block) }

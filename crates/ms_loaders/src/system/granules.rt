@@ -6,9 +6,9 @@ ghost use Rattle.ms_base.specs.Committed.{is_among};
 use super::System;
 
 impl System {
-    /// Tells whether a granule is committed: the words from its number times a granule's words on,
-    /// which are 8192, or 2048 under the policy aggressive. Past the end of the class space none
-    /// is. Takes no memory, and looks at no chunk and no loader.
+    /// Returns whether a granule is committed: the words from its number times a granule's words
+    /// on, which are 8192, or 2048 under the policy aggressive. Past the end of the class space
+    /// none is. Takes no memory, and visits no chunk and no loader.
     pub fn is_committed(&self, granule: u64) -> bool
         ensures { result ≡ is_among (self.now.committed ++ self.now.class_committed) granule }
     {

@@ -8,8 +8,8 @@ use crate::loader::{Loader, is_class};
 use crate::loaders::Loaders;
 
 impl System {
-    /// Tells the name of the loader in whose chunk a word lies, in either space, if it lies in one:
-    /// in use or not, committed or not. Takes no memory, goes down one path of one tree of the
+    /// Returns the name of the loader in whose chunk a word lies, in either space, if it lies in
+    /// one: in use or not, committed or not. Takes no memory, goes down one path of one tree of the
     /// pool, and looks the owner up once. Each loader is looked at only where one was exchanged in
     /// its place, or has owner numbers that weren't given together. This project's choice.
     pub fn holder(&self, word: u64) -> Option<u16>
@@ -35,7 +35,7 @@ fn first_owner(word: u64, owner: u32) -> u32 {
     }
 }
 
-/// Tells the name of the loader with an account of that owner's number, of which the first may be
+/// Returns the name of the loader with an account of that owner's number, of which the first may be
 /// known.
 fn name_of(loaders: &Loaders, owner: u32, first: u32) -> Option<u16>
     ensures some { IfSome result (λ name. IsTrue (list_any (has_owner name owner) loaders.now)) }
@@ -47,7 +47,8 @@ fn name_of(loaders: &Loaders, owner: u32, first: u32) -> Option<u16>
     }
 }
 
-/// Tells the name that was noted of the first number, where the loader that has it owns the number.
+/// Returns the name that was noted of the first number, where the loader that has it owns the
+/// number.
 fn name_by_note(loaders: &Loaders, owner: u32, first: u32) -> Option<u16>
     ensures { IfSome result (λ name. IsTrue (list_any (has_owner name owner) loaders.now)) }
 {
@@ -63,7 +64,7 @@ fn name_by_note(loaders: &Loaders, owner: u32, first: u32) -> Option<u16>
     None
 }
 
-/// Tells the name of the loader with an account of that number, by a look at each.
+/// Returns the name of the loader with an account of that number, by a look at each.
 fn name_by_walk(loaders: &Loaders, owner: u32) -> Option<u16>
     ensures some { IfSome result (λ name. IsTrue (list_any (has_owner name owner) loaders.now)) }
     ensures none { IfNone result ((name : ℕ) → IsFalse (list_any (has_owner name owner) loaders.now)) }
@@ -76,7 +77,7 @@ fn name_by_walk(loaders: &Loaders, owner: u32) -> Option<u16>
     None
 }
 
-/// Tells whether the number is that of one of the loader's accounts.
+/// Returns whether the number is that of one of the loader's accounts.
 fn owns(loader: &Loader, owner: u32) -> bool
     ensures { result ≡ is_owner owner loader.now }
 {

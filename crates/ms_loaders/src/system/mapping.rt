@@ -9,8 +9,8 @@ use ms_pool::RootMap;
 use std::alloc::AllocError;
 
 impl System {
-    /// Tells the map of each root of each reserved node, in order of address, those of the class
-    /// space last. Takes memory for the list alone, and fails only where that is refused; looks at
+    /// Returns the map of each root of each reserved node, in order of address, those of the class
+    /// space last. Takes memory for the list alone, and fails only where that is refused; visits
     /// each leaf of each root. After HotSpot's VM.metaspace vsmap; its places are this project's
     /// choice.
     pub fn maps(&self) -> Result<Vec<RootMap>, AllocError>

@@ -23,7 +23,7 @@ use std::alloc::Global;
 impl System {
     /// Puts a pool and the loaders over it together, exactly where the pool has no more accounts
     /// open than the loaders have, two of each. Refused with `Unsettled` and both numbers, counted
-    /// in accounts; then all parts are handed back as they were. Takes no memory, and looks at each
+    /// in accounts; then all parts are handed back as they were. Takes no memory, and visits each
     /// loader once. This project's choice.
     pub fn settle(
         alloc: Global,

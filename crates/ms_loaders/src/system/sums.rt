@@ -22,7 +22,7 @@ pub struct LoaderTotals {
 }
 
 impl System {
-    /// Tells the sums of one loader, where one has the name. Takes no memory, looks at each chunk
+    /// Returns the sums of one loader, where one has the name. Takes no memory, visits each chunk
     /// of that loader once, at no block, and at no other loader.
     pub fn loader_totals(&self, name: u16) -> Option<LoaderTotals>
         ensures sums { IfSome result (AreLoaderSums self.now name) }
@@ -39,9 +39,9 @@ impl System {
         })
     }
 
-    /// Tells the sums of each loader, over each of its arenas, and the map of each reserved root.
-    /// Takes memory for both lists, and fails only where that is refused; looks at each loader,
-    /// chunk and free part, and at no block.
+    /// Returns the sums of each loader, over each of its arenas, and the map of each reserved root.
+    /// Takes memory for both lists, and fails only where that is refused; visits each loader, chunk
+    /// and free part, and at no block.
     pub fn details(&self) -> Result<Details, AllocError>
         ensures { IfOk result (λ details. details_in details ≡ details_of self.now) }
     {

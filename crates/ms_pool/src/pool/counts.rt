@@ -22,7 +22,7 @@ pub struct LimitCounts {
 }
 
 impl Pool {
-    /// Tells what is committed and reserved, beside what may be. Takes no memory, and looks at no
+    /// Returns what is committed and reserved, beside what may be. Takes no memory, and visits no
     /// chunk.
     pub fn counts(&self) -> LimitCounts
         ensures { result

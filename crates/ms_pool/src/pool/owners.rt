@@ -6,7 +6,7 @@ use super::Pool;
 use crate::trees::holder;
 
 impl Pool {
-    /// Tells the number of the owner to whom the chunk is lent in which a word lies, in either
+    /// Returns the number of the owner to whom the chunk is lent in which a word lies, in either
     /// space, if it lies in one: in use or not, committed or not. A word of a node that isn't
     /// reserved lies in none. Takes no memory, and goes down one path of one tree. This project's
     /// choice.
