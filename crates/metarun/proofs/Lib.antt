@@ -5,3 +5,5 @@ pub mod InputLemmas
 pub mod FaultLemmas
 pub mod OptionLemmas
 pub mod CommandLineLemmas
+pub mod ChartLemmas
+pub mod FormLemmas

@@ -10,7 +10,9 @@ use Rattle.ms_base.specs.declared.policy.Policy.{Policy}
 use Rattle.ms_base.specs.declared.policy.Policy.TheVariants.{Balanced, Aggressive, None as NonePolicy}
 use Rattle.ms_loaders.specs.declared.details.Detail.{Detail}
 use Rattle.ms_loaders.specs.declared.details.Detail.TheVariants.{Basic, Full}
-use Rattle.metarun.specs.Asked.{ReadsDetail, ReadsNumber, ReadsPolicy, number_of}
+use Rattle.metarun.specs.declared.asked.Form.{Form}
+use Rattle.metarun.specs.declared.asked.Form.TheVariants.{Text as TextForm, Json}
+use Rattle.metarun.specs.Asked.{ReadsDetail, ReadsForm, ReadsNumber, ReadsPolicy, number_of}
 
 -- A numeral, after a plus or without one, is read as the number that it writes.
 pub numeral_is_read : (E : Type 0) (gives : List ℕ → Result ℕ E → Type 0) (text : List ℕ) (read : Option ℕ)
@@ -65,4 +67,21 @@ detail_given rows word chosen found basic full = record {
   absent = λ empty. absurd (none-some word (sym empty ∙ found));
   basic = λ text. basic (same_Some word (codes "basic") (sym found ∙ text));
   full = λ text. full (same_Some word (codes "full") (sym found ∙ text));
+}
+
+-- The same of a form.
+pub form_unasked : (rows : List Row) (chosen : Form) → first_of (codes "format") rows ≡ None
+    → chosen ≡ TextForm → ReadsForm rows chosen
+form_unasked rows chosen none is = record {
+  absent = λ _. is;
+  text = λ _. is;
+  json = λ word. absurd (none-some (codes "json") (sym none ∙ word));
+}
+
+pub form_given : (rows : List Row) (word : List ℕ) (chosen : Form) → first_of (codes "format") rows ≡ Some word
+    → (word ≡ codes "text" → chosen ≡ TextForm) → (word ≡ codes "json" → chosen ≡ Json) → ReadsForm rows chosen
+form_given rows word chosen found text json = record {
+  absent = λ empty. absurd (none-some word (sym empty ∙ found));
+  text = λ same. text (same_Some word (codes "text") (sym found ∙ same));
+  json = λ same. json (same_Some word (codes "json") (sym found ∙ same));
 }

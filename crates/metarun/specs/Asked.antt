@@ -1,5 +1,5 @@
 -- What a command line may ask for (this project's choice).
-use Rattle.std.specs.Prelude.{◌≡◌, ◌≤◌, ℕ, Bool, List, true, false, Some, None, codes, ⊤}
+use Rattle.std.specs.Prelude.{◌≡◌, ◌≢◌, ◌≤◌, ◌⊎◌, ℕ, Bool, List, true, false, Some, None, codes, ⊤}
 use Rattle.std.specs.Prelude.{string_bytes}
 use Rattle.std.specs.Str.Parse.{digits_value, without_leading_plus}
 use Rattle.clap.specs.Words.{App, IsUnsignedIn, Row, Text, first_of, matches_of, one_of}
@@ -8,15 +8,19 @@ use Rattle.ms_base.specs.declared.policy.Policy.TheVariants as policy
 use Rattle.ms_loaders.specs.declared.details.Detail.{Detail}
 use Rattle.ms_loaders.specs.declared.details.Detail.TheVariants.{Basic, Full}
 use Rattle.metarun.specs.CommandLine.{IsCommandLine}
+use Rattle.metarun.specs.declared.asked.Form.{Form}
+use Rattle.metarun.specs.declared.asked.Form.TheVariants as form
 use Rattle.metarun.specs.declared.asked.Options.{Options}
 use Rattle.metarun.specs.declared.options.Refused.{Refused}
 use Rattle.metarun.specs.declared.options.Refused.TheVariants.{Help, OutOfMemory, Usage}
 
--- The numbers lie in their ranges, and only one worker tells addresses.
+-- The numbers lie in their ranges, only one worker tells addresses, and a form other than text has
+-- one worker.
 pub record IsAllowed (options : Options) : Type 0 where
   pub workers_some : 1 ≤ options.settings.workers
   pub workers_few : options.settings.workers ≤ 8
   pub addresses_alone : options.addresses ≡ true → options.settings.workers ≡ 1
+  pub form_alone : options.form ≢ form.Text → options.settings.workers ≡ 1
   pub nodes_some : 1 ≤ options.settings.nodes
   pub nodes_few : options.settings.nodes ≤ 64
   pub granules_some : 1 ≤ options.settings.max_granules
@@ -26,7 +30,7 @@ pub record IsAllowed (options : Options) : Type 0 where
   pub lines_few : options.max_lines ≤ 10000000
 
 -- Nothing was asked for: one worker, 64 nodes, 8192 granules, policy balanced, no class space, no
--- addresses, basic reports, 100000 lines.
+-- addresses, basic reports, text, 100000 lines.
 pub record IsDefault (options : Options) : Type 0 where
   pub workers : options.settings.workers ≡ 1
   pub nodes : options.settings.nodes ≡ 64
@@ -35,6 +39,7 @@ pub record IsDefault (options : Options) : Type 0 where
   pub class_nodes : options.settings.class_nodes ≡ 0
   pub addresses : options.addresses ≡ false
   pub detail : options.detail ≡ Basic
+  pub text : options.form ≡ form.Text
   pub max_lines : options.max_lines ≡ 100000
 
 -- The number that a text writes in digits, after a plus or without one.
@@ -66,6 +71,12 @@ pub record ReadsDetail (rows : List Row) (chosen : Detail) : Type 0 where
   pub basic : first_of (codes "report") rows ≡ Some (codes "basic") → chosen ≡ Basic
   pub full : first_of (codes "report") rows ≡ Some (codes "full") → chosen ≡ Full
 
+-- A form is the one whose word was given, text where none was.
+pub record ReadsForm (rows : List Row) (chosen : Form) : Type 0 where
+  pub absent : first_of (codes "format") rows ≡ None → chosen ≡ form.Text
+  pub text : first_of (codes "format") rows ≡ Some (codes "text") → chosen ≡ form.Text
+  pub json : first_of (codes "format") rows ≡ Some (codes "json") → chosen ≡ form.Json
+
 -- The options are those that the rows give, in which `clap` has what it found for each option.
 pub record AreRead (rows : List Row) (options : Options) : Type 0 where
   pub workers : ReadsNumber rows (codes "workers") 1 8 1 options.settings.workers
@@ -75,6 +86,7 @@ pub record AreRead (rows : List Row) (options : Options) : Type 0 where
   pub policy : ReadsPolicy rows options.settings.policy
   pub addresses : ReadsFlag rows (codes "addresses") options.addresses
   pub detail : ReadsDetail rows options.detail
+  pub written : ReadsForm rows options.form
   pub max_lines : ReadsNumber rows (codes "max-lines") 1 10000000 100000 options.max_lines
 
 -- The options are allowed, and are those that the words of a command line ask for.
@@ -89,8 +101,18 @@ abbrev pub IsTold : Refused → Type 0
 IsTold (Help text) = ⊤
 IsTold _ = ⊥
 
--- What it has for standard error where several workers are asked for addresses, memory aside.
+-- The rows have addresses, or a form: what only one worker may be asked for.
+abbrev pub AskAlone : List Row → Type 0
+AskAlone rows = (one_of (codes "addresses") rows ≢ None) ⊎ (first_of (codes "format") rows ≢ None)
+
+-- It has this line for standard error, memory aside.
+abbrev pub Says : List ℕ → Refused → Type 0
+Says line (Help text) = ⊥
+Says line (Usage text) = string_bytes text ≡ line
+Says line OutOfMemory = ⊤
+
+-- The line where several workers are asked for addresses, or for a form other than text.
 abbrev pub SaysAlone : Refused → Type 0
-SaysAlone (Help text) = ⊥
-SaysAlone (Usage text) = string_bytes text ≡ codes "metarun: --addresses needs --workers 1\n"
-SaysAlone OutOfMemory = ⊤
+SaysAlone refused =
+    Says (codes "metarun: --addresses needs --workers 1\n") refused
+    ⊎ Says (codes "metarun: --format json needs --workers 1\n") refused

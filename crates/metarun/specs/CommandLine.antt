@@ -38,21 +38,26 @@ pub record IsChoiceRule (name : Text) (words : List Text) (rule : Rule) : Type 0
   pub told : map (λ choice. choice.now) choices.now ≡ words
   pub is : rule ≡ choice_rule name choices
 
--- `--policy P`, the words of the three policies, and `--report R`, those of the two reports.
+-- `--policy P`, the words of the three policies, `--report R`, those of the two reports, and
+-- `--format F`, those of the two forms.
 abbrev pub IsPolicyRule : Rule → Type 0
 IsPolicyRule = IsChoiceRule (codes "policy") (codes "balanced" ∷ codes "aggressive" ∷ codes "none" ∷ [])
 
 abbrev pub IsReportRule : Rule → Type 0
 IsReportRule = IsChoiceRule (codes "report") (codes "basic" ∷ codes "full" ∷ [])
 
+abbrev pub IsFormatRule : Rule → Type 0
+IsFormatRule = IsChoiceRule (codes "format") (codes "text" ∷ codes "json" ∷ [])
+
 -- A program with a name and a version, which is told at `--version`; help is told at `--help`.
 abbrev pub named : Text → App
 named name = record { top = record (new_app name).top { has_version = true }; subs = [] }
 
--- The command line with its eight options.
-abbrev pub line_with : Rule → Rule → App
-line_with policy report =
-    with_rule (with_rule (with_rule (with_rule (with_rule (with_rule (with_rule (with_rule (named (codes "metarun"))
+-- The command line with its nine options.
+abbrev pub line_with : Rule → Rule → Rule → App
+line_with policy report format =
+    with_rule (with_rule (with_rule (with_rule (with_rule (with_rule (with_rule (with_rule (with_rule
+    (named (codes "metarun"))
     (number_rule (codes "workers") 1 8))
     (number_rule (codes "max-granules") 1 40960))
     (number_rule (codes "nodes") 1 64))
@@ -60,14 +65,17 @@ line_with policy report =
     policy)
     (number_rule (codes "class-nodes") 0 16))
     report)
-    (number_rule (codes "max-lines") 1 10000000)
+    (number_rule (codes "max-lines") 1 10000000))
+    format
 
 pub record IsCommandLine (app : App) : Type 0 where
   pub policy : Rule
   pub policy_is : IsPolicyRule policy
   pub report : Rule
   pub report_is : IsReportRule report
-  pub is : app ≡ line_with policy report
+  pub format : Rule
+  pub format_is : IsFormatRule format
+  pub is : app ≡ line_with policy report format
 
 -- What an error of these kinds says is for standard output: the help, or the version.
 abbrev pub IsShown : ErrorKind → Type 0

@@ -40,6 +40,12 @@ abbrev pub Blames : (limit : ℕ) → List ℕ → Failure → Type 0
 Blames limit text (Fault fault) = HasFault limit text fault.line fault.kind
 Blames limit text _ = ⊤
 
+-- Memory or a thread was wanting.
+abbrev pub IsWant : Failure → Type 0
+IsWant OutOfMemory = ⊤
+IsWant NoThread = ⊤
+IsWant _ = ⊥
+
 -- No accounts were left open.
 abbrev pub IsSettled : Failure → Type 0
 IsSettled (Unsettled opened gathered) = ⊥

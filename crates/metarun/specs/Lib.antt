@@ -3,3 +3,4 @@ pub mod Session
 pub mod Asked
 pub mod CommandLine
 pub mod Start
+pub mod Charting

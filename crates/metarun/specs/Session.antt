@@ -1,5 +1,5 @@
 -- What a session writes for a trace (this project's choice).
-use Rattle.std.specs.Prelude.{◌≡◌, ◌⊎◌, ℕ, List, [], ◌∷◌, ◌++◌, Option, Some, IfSome, take}
+use Rattle.std.specs.Prelude.{◌≡◌, ◌⊎◌, ℕ, List, [], ◌∷◌, ◌++◌, Option, Some, IfSome, codes, length, take}
 use Rattle.std.specs.Io.KnownBytes.{Appends, IsAtEnd, Keeps}
 use Rattle.std.specs.List.{All}
 use Rattle.ms_base.specs.declared.step.Reply.{Reply}
@@ -18,9 +18,18 @@ use Rattle.ms_loaders.specs.declared.replies.Answer.{Answer}
 use Rattle.ms_report.specs.Detailed.{detailed_text}
 use Rattle.ms_report.specs.Refused.{refusals_of}
 use Rattle.ms_report.specs.ReplyLines.{answers_text}
+use Rattle.ms_loaders.specs.declared.totals.Totals.{Totals}
+use Rattle.serde_json.specs.Written.{compact_text}
+use Rattle.ms_course.specs.Course.{ColumnsView, Shows}
+use Rattle.ms_json.specs.Document.{document}
 use Rattle.ms_run.specs.Course.{Course, begun, passed}
 use Rattle.ms_run.specs.Peaks.{ArePeaks}
+use Rattle.ms_run.specs.Observing.{IsObserved}
 use Rattle.ms_run.specs.Replay.{Advances, IsDetailed, IsReplay}
+use Rattle.ms_run.specs.Seeing.{Sight}
+use Rattle.metarun.specs.Charting.{moments_of}
+use Rattle.metarun.specs.declared.asked.Form.{Form}
+use Rattle.metarun.specs.declared.asked.Form.TheVariants.{Text, Json}
 use Rattle.metarun.specs.declared.asked.Options.{Options}
 
 -- What follows the reply to a command, before which these replies were given: where a report is
@@ -44,20 +53,44 @@ Outputs options before old (line ∷ lines) output new =
     × (output ≡ reply_line options.addresses line.number reply ++ report ++ rest)
     × Outputs options (before ++ reply ∷ []) mid lines rest new
 
--- The output is what a session with these options writes for the text: the text reads as a trace of no
--- more lines than the options allow, which is answered phase by phase, the lines of each in some order one run of the machine, each
--- line by the worker whose turn it is, and a report by the totals of the state reached, with
--- details where the options ask for them; with one worker the machine runs through all commands in
--- their order from the empty state.
-pub record IsOutput (options : Options) (text output : List ℕ) : Type 0 where
-  pub trace : Trace
+-- The output is the text of the answers to a trace, which is answered phase by phase, the lines of each
+-- in some order one run of the machine, each line by the worker whose turn it is, and a report by the
+-- totals of the state reached, with details where the options ask for them; with one worker the
+-- machine runs through all commands in their order from the empty state.
+pub record IsText (options : Options) (trace : Trace) (output : List ℕ) : Type 0 where
   pub answers : List Answer
-  pub reads : ReadsAs options.max_lines text trace
   pub own : IsReplay (limits_of options.settings) options.settings.workers trace.lines answers
   pub detailed : All (IsDetailed options.detail) answers
   pub output_is : output ≡ answers_text options.addresses options.detail options.settings answers
   pub run : options.settings.workers ≡ 1
       → (last : Course) × Outputs options [] (begun (empty_machine (limits_of options.settings))) trace.lines output last
+
+-- The output is one document and a newline: that of the answers of one worker, who runs through all
+-- commands in their order from the empty state with full reports; of columns that show each state
+-- that is reached so; and of the totals of the last.
+pub record IsDocument (options : Options) (trace : Trace) (output : List ℕ) : Type 0 where
+  pub answers : List Answer
+  pub sights : List Sight
+  pub columns : ColumnsView
+  pub last : Totals
+  pub observed : IsObserved (limits_of options.settings) trace.lines answers sights last
+  pub shown : Shows columns (moments_of sights)
+  pub lines : columns.lines ≡ length trace.lines
+  pub output_is : output
+      ≡ compact_text (document options.addresses options.settings (length trace.lines) answers columns.columns last)
+      ++ codes "\n"
+
+-- What a trace gives in a form.
+abbrev pub IsIn : Form → Options → Trace → List ℕ → Type 0
+IsIn Text options trace output = IsText options trace output
+IsIn Json options trace output = IsDocument options trace output
+
+-- The output is what a session with these options writes for the text: the text reads as a trace of no
+-- more lines than the options allow, and the output is what that gives in the form that is asked for.
+pub record IsOutput (options : Options) (text output : List ℕ) : Type 0 where
+  pub trace : Trace
+  pub reads : ReadsAs options.max_lines text trace
+  pub output_is : IsIn options.form options trace output
 
 -- The text is all that a reader had to give, where it tells its bytes, and then nothing is left to
 -- read.

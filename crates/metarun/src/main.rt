@@ -1,16 +1,18 @@
 //! `metarun` runs a trace of class loader operations: one reply a line, and a report of the
-//! metaspace where one is asked for.
+//! metaspace where one is asked for; or one document with all of it.
 //!
 //!     words ──── options ────────┐
-//!     standard input ── devices ── ms_trace ── ms_run ── ms_report ── devices ── standard output
-//!                         read      parse      replay      lines       write
+//!     standard input ── devices ── ms_trace ── ms_run ─┬─ ms_report ─┬─ devices ── standard output
+//!                         read      parse      replay  └── ms_json ──┘   write
 //!
 //! Kept true: what goes out is the text of the answers to the trace that came in, those of a run of
 //! the machine with one worker. The command line is judged before anything is read, and the whole
-//! trace is read and parsed before anything runs. Stands on `ms_trace`, `ms_run` and `ms_report`.
+//! trace is read and parsed before anything runs. Stands on `ms_trace`, `ms_run`, `ms_report` and
+//! `ms_json`.
 #![tactic(auto)]
 
 mod asked;
+mod charting;
 mod devices;
 mod failure;
 mod options;

@@ -1,6 +1,6 @@
 //! What a run is asked to be, and the command line that asks for it.
 //!
-//!     metarun --max-granules 1 --addresses   ->   Options { settings, addresses, detail }
+//!     metarun --max-granules 1 --addresses   ->   Options { settings, addresses, detail, form }
 //!
 //! Kept true: what is accepted lies within the ranges that `Settings` has, and what is not asked
 //! for is the default. `clap` reads the words and writes the texts of refusals and of the help.
@@ -8,16 +8,17 @@
 ghost use Rattle.std.specs.Prelude.{◌≡◌, ◌≢◌, ◌≤◌, ◌<◌, ◌^◌, ℕ, IfOk, IfErr, IsOkAnd, None, Some};
 ghost use Rattle.std.specs.Prelude.{codes};
 ghost use Rattle.std.specs.Str.Parse.{IsNumeral, without_leading_plus};
-ghost use Rattle.std.specs.Prelude.{length, map, false};
+ghost use Rattle.std.specs.Prelude.{length, map, false, IsTrue, ◌↔◌};
 ghost use Rattle.clap.specs.Words.{App, Text, app_of, found_of, kind_of, new_rule, one_of, rows_of};
 ghost use Rattle.clap.specs.Words.{rule_of, with_rule};
-ghost use Rattle.metarun.specs.Asked.{IsAllowed, IsDefault, IsTold, AreRead, AreAsked, SaysAlone};
-ghost use Rattle.metarun.specs.Asked.{ReadsDetail, ReadsFlag, ReadsNumber, ReadsPolicy, number_of};
+ghost use Rattle.metarun.specs.Asked.{IsAllowed, IsDefault, IsTold, AreRead, AreAsked, AskAlone};
+ghost use Rattle.metarun.specs.Asked.{ReadsDetail, ReadsFlag, ReadsForm, ReadsNumber, ReadsPolicy};
+ghost use Rattle.metarun.specs.Asked.{Says, SaysAlone, number_of};
 ghost use Rattle.metarun.specs.CommandLine.{IsCommandLine, IsShown, AskToBeTold, IsPolicyRule};
-ghost use Rattle.metarun.specs.CommandLine.{IsReportRule};
+ghost use Rattle.metarun.specs.CommandLine.{IsFormatRule, IsReportRule};
 ghost use Rattle.metarun.specs.CommandLine.{number_rule, addresses_rule, named};
 
-use crate::asked::Options;
+use crate::asked::{Form, Options};
 use clap::builder::ValueParser;
 use clap::error::ErrorKind;
 use clap::{Arg, ArgAction, ArgMatches, Command, value_parser};
@@ -40,8 +41,9 @@ pub enum Refused {
 /// Reads a command line, whose first word is the program's name. Granules count 8192 words each,
 /// 2048 under policy aggressive; nodes count 1048576 words each. `Help` comes where the first of
 /// the faults is a use of `--help` or of `--version`, `Usage` for an unknown or repeated option, a
-/// missing value, or one out of its range, and where blocks' addresses are asked for of more than
-/// one worker, since a schedule decides them. Takes memory. This project's choice.
+/// missing value, or one out of its range, and where more than one worker is asked for blocks'
+/// addresses, since a schedule decides them, or for a form other than text, which tells the states
+/// that the lines lead to one after the other. Takes memory. This project's choice.
 pub fn options_of<'a, S: AsStr>(alloc: Global, words: &'a [S]) -> Result<Options, Refused>
     ensures allowed { IfOk result IsAllowed }
     ensures default { length words.entry.now ≤ 1 → IsOkAnd result IsDefault }
@@ -76,31 +78,35 @@ fn reason_of(alloc: Global, error: &clap::Error) -> Refused
     }
 }
 
-/// The line on standard error where addresses are asked for of several workers.
+/// The lines on standard error where several workers are asked for what one alone tells.
 const ADDRESSES_ALONE: &str = "metarun: --addresses needs --workers 1\n";
+const JSON_ALONE: &str = "metarun: --format json needs --workers 1\n";
 
-/// Refuses addresses of several workers.
-fn addresses_refused(alloc: Global) -> Refused
-    ensures { SaysAlone result }
+/// Refuses a command line with this line for standard error.
+fn refused_with(alloc: Global, line: &str) -> Refused
+    ensures { Says line.now result }
 {
-    match String::from_str(alloc, ADDRESSES_ALONE) {
+    match String::from_str(alloc, line) {
         Ok(text) => Refused::Usage(text),
         Err(_) => Refused::OutOfMemory,
     }
 }
 
-/// Collects what was chosen. Only one worker may tell addresses.
+/// Collects what was chosen. Only one worker may tell addresses, or write another form than text.
 fn chosen(alloc: Global, matches: &ArgMatches) -> Result<Options, Refused>
     ensures allowed { IfOk result IsAllowed }
     ensures read { IfOk result (AreRead (rows_of (found_of matches.now))) }
     ensures refused { IfErr result SaysAlone }
-    ensures many { IfErr result
-        (λ refused. one_of (codes "addresses") (rows_of (found_of matches.now)) ≢ None) }
+    ensures many { IfErr result (λ refused. AskAlone (rows_of (found_of matches.now))) }
 {
     let workers = number_in(matches, "workers", 1, 8, 1) as u32;
     let addresses = flag_in(matches, "addresses");
     if addresses && workers > 1 {
-        return Err(addresses_refused(alloc));
+        return Err(refused_with(alloc, ADDRESSES_ALONE));
+    }
+    let form = form_in(matches);
+    if is_other(form) && workers > 1 {
+        return Err(refused_with(alloc, JSON_ALONE));
     }
     Ok(Options {
         settings: Settings {
@@ -112,6 +118,7 @@ fn chosen(alloc: Global, matches: &ArgMatches) -> Result<Options, Refused>
         },
         addresses,
         detail: detail_in(matches),
+        form,
         max_lines: number_in(matches, "max-lines", 1, 10_000_000, 100_000) as u32,
     })
 }
@@ -192,6 +199,37 @@ fn detail_named(word: &str) -> Detail
     }
 }
 
+/// Tells in which form the answers shall be written, or the default.
+fn form_in(matches: &ArgMatches) -> Form
+    ensures { ReadsForm (rows_of (found_of matches.now)) result }
+{
+    match matches.get_str("format") {
+        Some(word) => form_named(word),
+        None => Form::Text,
+    }
+}
+
+/// Tells the form of that word: `clap` accepts no other than the two.
+fn form_named(word: &str) -> Form
+    ensures json { word.now ≡ codes "json" → result ≡ Form.Json }
+    ensures text { word.now ≡ codes "text" → result ≡ Form.Text }
+{
+    match word {
+        "json" => Form::Json,
+        _ => Form::Text,
+    }
+}
+
+/// Returns whether a form is another than text.
+fn is_other(form: Form) -> bool
+    ensures { IsTrue result ↔ (form ≢ Form.Text) }
+{
+    match form {
+        Form::Text => false,
+        Form::Json => true,
+    }
+}
+
 /// The version, and the toolchain that all is proved with.
 const VERSION: &str = "1.0.0 (proved with rattle-kit-13f logic dac8208d650f15bf)";
 
@@ -201,7 +239,7 @@ const ABOUT: &str = "Runs a trace of class loader operations over an elastic met
 Standard input has the trace: one operation a line, as 'new 1 standard' (a loader), 'alloc 1 1 10'
 (a block of 10 words), 'free 1 1', 'unload 1', 'purge' or 'report'. Standard output gets a reply
 for each operation: its line number, and 'ok', 'at A', 'value V' or 'refused NAME'; after a report's
-'ok' the totals. A word is 8 bytes.";
+'ok' the totals. With --format json it gets one document in their place. A word is 8 bytes.";
 
 /// The last words of the help.
 const AFTER: &str = "Exit status:
@@ -227,7 +265,8 @@ fn command<'a>(alloc: Global) -> Result<Command<'a>, AllocError>
     let command = with(command, policy(alloc));
     let command = with(command, class_nodes(alloc));
     let command = with(command, report(alloc));
-    with(command, max_lines(alloc))
+    let command = with(command, max_lines(alloc));
+    with(command, format(alloc))
 }
 
 /// Adds an option, where there was memory so far.
@@ -372,4 +411,17 @@ fn max_lines<'a>(alloc: Global) -> Arg<'a>
         value_parser!(u64).range(1..=10_000_000),
         "Accept a trace of at most N lines: 1 to 10000000 [default: 100000]",
     )
+}
+
+/// Describes `--format`.
+fn format<'a>(alloc: Global) -> Arg<'a>
+    ensures rule { IsFormatRule (rule_of result) }
+    ensures own { result.global ≡ false }
+{
+    let forms = ["text", "json"].as_slice();
+    Arg::new(alloc, "format")
+        .long("format")
+        .value_name("F")
+        .value_parser(forms)
+        .help("Write text, or one JSON document; json needs --workers 1 [default: text]")
 }

@@ -1,18 +1,20 @@
 //! A session: the whole input is read and parsed, then run, while the text of the answers grows in
-//! the room that the input had, then that text is written.
-ghost use Rattle.std.specs.Prelude.{◌≡◌, ◌⊎◌, ℕ, List, IfOk, IfErr, IfSome, string_bytes};
+//! the room that the input had, in the form that is asked for, then that text is written.
+ghost use Rattle.std.specs.Prelude.{◌≡◌, ◌⊎◌, ◌≤◌, ◌<◌, ◌^◌, ℕ, List, IfOk, IfErr, IfSome, length, string_bytes};
 ghost use Rattle.std.specs.Io.KnownBytes.{Keeps};
 ghost use Rattle.ms_trace.specs.declared.fault.FaultKind.{FaultKind};
 ghost use Rattle.ms_trace.specs.Faults.{HasFault};
-ghost use Rattle.metarun.specs.Failure.{Blames, IsSettled};
-ghost use Rattle.metarun.specs.Session.{IsOutput, IsAnswered, IsBrokenOff, IsWhole};
+ghost use Rattle.metarun.specs.Failure.{Blames, IsSettled, IsWant};
+ghost use Rattle.metarun.specs.Session.{IsDocument, IsOutput, IsAnswered, IsBrokenOff, IsText, IsWhole};
 
-use crate::asked::Options;
+use crate::asked::{Form, Options};
+use crate::charting::Chart;
 use crate::devices::{most_bytes, read_text, write_text};
 use crate::failure::Failure;
+use ms_json::Document;
 use ms_report::AnswerText;
-use ms_run::{NoGate, replay_into};
-use ms_trace::parse_within;
+use ms_run::{NoGate, replay_into, replay_observed};
+use ms_trace::{Trace, parse_within};
 use std::alloc::Global;
 use std::io::{Read, Write};
 use std::sync::Wait;
@@ -54,7 +56,7 @@ pub fn session<T: Threads + Wait + Sync, R: Read, W: Write, E: Write>(
     }
 }
 
-/// Reads a trace, runs it, and gives the text that answers it.
+/// Reads a trace, runs it, and gives what answers it in the form that is asked for.
 fn answer_to<T: Threads + Wait + Sync, R: Read>(
     rt: &T,
     alloc: Global,
@@ -70,10 +72,49 @@ fn answer_to<T: Threads + Wait + Sync, R: Read>(
 {
     let text = read_text(alloc, input, most_bytes(options.max_lines))?;
     let trace = parse_within(alloc, &text, options.max_lines)?;
+    let room = emptied(text);
+    match options.form {
+        Form::Text => text_of(rt, alloc, options, &trace, room),
+        Form::Json => document_of(alloc, options, &trace, room),
+    }
+}
+
+/// Runs a trace, and gives the text that answers it, in this room.
+fn text_of<T: Threads + Wait + Sync>(
+    rt: &T,
+    alloc: Global,
+    options: &Options,
+    trace: &Trace,
+    room: String,
+) -> Result<String, Failure>
+    ensures ok { IfOk result (λ text. IsText options.now trace.now (string_bytes text)) }
+    ensures err { IfErr result IsWant }
+{
     let (settings, detail) = (options.settings, options.detail);
-    let mut answers = AnswerText::new(emptied(text), options.addresses, detail, settings);
-    replay_into(rt, alloc, &trace, settings, detail, &NoGate, &mut answers)?;
+    let mut answers = AnswerText::new(room, options.addresses, detail, settings);
+    replay_into(rt, alloc, trace, settings, detail, &NoGate, &mut answers)?;
     Ok(answers.into_text())
+}
+
+/// Runs a trace by one worker, and gives the document that tells its answers, its course and its
+/// end, in this room.
+fn document_of(
+    alloc: Global,
+    options: &Options,
+    trace: &Trace,
+    room: String,
+) -> Result<String, Failure>
+    requires few { length trace.now.lines < 2 ^ 32 }
+    ensures ok { IfOk result (λ text. IsDocument options.now trace.now (string_bytes text)) }
+    ensures err { IfErr result IsWant }
+{
+    let lines = trace.lines.as_slice().len() as u32;
+    let settings = options.settings;
+    let mut chart = Chart::new(alloc, lines)?;
+    let mut document = Document::new(alloc, room, options.addresses)?;
+    let end = replay_observed(alloc, trace, settings, &mut document, &mut chart)?;
+    let text = document.finish(&settings, lines, chart.columns.columns(), &end)?;
+    Ok(text)
 }
 
 /// Empties a text that was read, and keeps its room for the answers: they are seldom longer.

@@ -1,12 +1,15 @@
-use Rattle.std.proofs.Common.{subst, arith, List, [], ℕ, sym, ◌∙◌}
+use Rattle.std.proofs.Common.{subst, arith, List, ℕ}
+use Rattle.std.specs.Prelude.{string_bytes}
 use Rattle.std.proofs.lemmas.Result.{err_from_is_err_and}
 use Rattle.ms_trace.specs.Faults.{BlamesText}
 use Rattle.ms_trace.specs.Spelling.{ReadsAs}
-use Rattle.ms_report.specs.AnswerText.{AnswerTextView, Tells, no_answer}
-use Rattle.ms_report.proofs.ReplyLemmas.{tells_none}
+use Rattle.metarun.specs.Session.{IsWhole}
+use Rattle.metarun.specs.declared.asked.Form.TheVariants.{Text, Json}
+use Rattle.metarun.proofs.FormLemmas.{answers_whole, few_lines, want_blames, want_settles}
 use Rattle.metarun.proofs.InputLemmas.{blames_whole, is_whole}
-use Rattle.metarun.proofs.SessionLemmas.{run_outputs}
 use Rattle.metarun.proofs.session.answer_to.Goals as goal
+use Rattle.metarun.proofs.session.answer_to.Goals.{After-emptied-room}
+use Rattle.metarun.proofs.session.answer_to.Given.{Over}
 
 pub returns-in_err-trace-clause-err : goal.returns-in_err-trace-clause-err
 returns-in_err-trace-clause-err g c =
@@ -21,30 +24,51 @@ returns-in_err-trace-clause-err g c =
       whole = λ short. c.in_ok-text.ensures.whole (omega (arith, length_is, c.most_bytes.ensures, short));
     }) blames)
 
-pub returns-clause-ok : goal.returns-clause-ok
-returns-clause-ok g c =
+-- What was read reads as the trace.
+reads : (g : Over) (c : After-emptied-room g) → ReadsAs c.args.options.now.max_lines c.in_ok-text.text.items c.in_ok-trace.trace
+reads g c =
+    subst (λ (bytes : List ℕ). ReadsAs c.args.options.now.max_lines bytes c.in_ok-trace.trace) c.deref.ensures.value
+    c.in_ok-trace.ensures.reads
+
+-- It is all of the input.
+whole : (g : Over) (c : After-emptied-room g)
+    → IsWhole (g.R.Read.remaining c.args.input.now) (g.R.Read.remaining c.read_text.new.input) c.in_ok-text.text.items
+whole g c =
     let length_is = c.in_ok-text.text.ok.0 in
-    let reads = subst (λ (bytes : List ℕ). ReadsAs c.args.options.now.max_lines bytes c.in_ok-trace.trace) c.deref.ensures.value
-    c.in_ok-trace.ensures.reads in
-    let asked = c.args.options.now in
-    let told = c.in_ok-replay_into.ensures.answers in
-    let tells = told.1 (no_answer asked.addresses asked.detail asked.settings) []
-    (subst (λ (text : AnswerTextView). Tells (no_answer asked.addresses asked.detail asked.settings) text [])
-    (sym c.new-answers.ensures) (tells_none asked.addresses asked.detail asked.settings)) in
-    let output = c.into_text.ensures ∙ tells.text in (
-      c.in_ok-text.text.items,
-      is_whole c.args.options.now.max_lines _ _ c.in_ok-text.text.items c.in_ok-trace.trace (record {
-        beginning = c.in_ok-text.ensures.bytes;
-        most = omega (arith, length_is, c.most_bytes.ensures, c.in_ok-text.ensures.most);
-        whole = λ short. c.in_ok-text.ensures.whole (omega (arith, length_is, c.most_bytes.ensures, short));
-      }) reads,
-      record {
-        trace = c.in_ok-trace.trace;
-        answers = told.0;
-        reads = reads;
-        own = told.2.own;
-        detailed = told.2.detailed;
-        output_is = output;
-        run = run_outputs _ asked _ _ _ _ output told.2.detailed told.2.run;
-      },
-    )
+    is_whole c.args.options.now.max_lines _ _ c.in_ok-text.text.items c.in_ok-trace.trace (record {
+      beginning = c.in_ok-text.ensures.bytes;
+      most = omega (arith, length_is, c.most_bytes.ensures, c.in_ok-text.ensures.most);
+      whole = λ short. c.in_ok-text.ensures.whole (omega (arith, length_is, c.most_bytes.ensures, short));
+    }) (reads g c)
+
+pub document_of-requires : goal.document_of-requires
+document_of-requires g c =
+    let few = few_lines c.args.options.now.max_lines c.in_ok-trace.trace.lines c.in_ok-trace.ensures.in_order in
+    omega (arith, few, c.args.options.now.lines_few)
+
+pub returns-in-Text-clause-ok : goal.returns-in-Text-clause-ok
+returns-in-Text-clause-ok g c =
+    let before = (goal.at.returns-in-Text-clause-ok g c).After-emptied-room in
+    answers_whole string_bytes c.args.options.now Text _ _ c.in_ok-text.text.items c.in_ok-trace.trace c.text_of.result
+    c.in-Text.is (whole g before) (reads g before) c.text_of.ensures.ok
+
+pub returns-in-Text-clause-err : goal.returns-in-Text-clause-err
+returns-in-Text-clause-err g c =
+    want_blames c.args.options.now.max_lines (g.R.Read.remaining c.args.input.now) c.text_of.result c.text_of.ensures.err
+
+pub returns-in-Text-clause-settled : goal.returns-in-Text-clause-settled
+returns-in-Text-clause-settled g c = want_settles c.text_of.result c.text_of.ensures.err
+
+pub returns-in-Json-clause-ok : goal.returns-in-Json-clause-ok
+returns-in-Json-clause-ok g c =
+    let before = (goal.at.returns-in-Json-clause-ok g c).After-emptied-room in
+    answers_whole string_bytes c.args.options.now Json _ _ c.in_ok-text.text.items c.in_ok-trace.trace c.document_of.result
+    c.in-Json.is (whole g before) (reads g before) c.document_of.ensures.ok
+
+pub returns-in-Json-clause-err : goal.returns-in-Json-clause-err
+returns-in-Json-clause-err g c =
+    want_blames c.args.options.now.max_lines (g.R.Read.remaining c.args.input.now) c.document_of.result
+    c.document_of.ensures.err
+
+pub returns-in-Json-clause-settled : goal.returns-in-Json-clause-settled
+returns-in-Json-clause-settled g c = want_settles c.document_of.result c.document_of.ensures.err
