@@ -26,12 +26,16 @@ REFUSED = (
     (["--workers=9"], b"error: invalid value '9' for '--workers <N>': 9 is not in 1..=8\n"),
     (["--policy", "lazy"], b"error: invalid value 'lazy' for '--policy <P>'\n"),
     (["--report", "short"], b"error: invalid value 'short' for '--report <R>'\n"),
+    (["--format", "xml"], b"error: invalid value 'xml' for '--format <F>'\n"),
+    (["--format"], b"error: a value is required for '--format <F>' but none was supplied\n"),
     (["--nodes", "4", "--nodes", "4"], b"error: the argument '--nodes <N>' cannot be used multiple times\n"),
     (["--addresses", "--addresses"], b"error: the argument '--addresses' cannot be used multiple times\n"),
 )
 # words that are refused with this line alone
 REFUSED_IN_A_LINE = (
     (["--addresses", "--workers", "2"], b"metarun: --addresses needs --workers 1\n"),
+    (["--format", "json", "--workers", "2"], b"metarun: --format json needs --workers 1\n"),
+    (["--format", "json", "--addresses", "--workers", "2"], b"metarun: --addresses needs --workers 1\n"),
     ([b"\xff"], b"metarun: the command line is no text\n"),
 )
 DEFAULT = {"policy": "balanced", "granule": "8192", "max granules": "8192", "nodes": "64", "class nodes": "0",
@@ -43,6 +47,7 @@ ACCEPTED = (
     (["--nodes", "04", "--max-granules=0000128"], {"nodes": "4", "max granules": "128"}, b"ok"),
     (["--nodes=+4", "--class-nodes", "+2"], {"nodes": "4", "class nodes": "2"}, b"ok"),
     (["--policy=balanced", "--class-nodes", "1"], {"class nodes": "1"}, b"ok"),
+    (["--format=text", "--workers", "2"], {"workers": "2"}, b"ok"),
     (["--addresses", "--workers=1", "--policy", "none", "--nodes=1", "--max-granules=1", "--class-nodes=0"],
      {"policy": "none", "max granules": "1", "nodes": "1"}, b"at 0"),
     (["--workers", "8", "--class-nodes", "16", "--max-granules", "40960", "--nodes", "64", "--policy=aggressive"],
@@ -64,6 +69,8 @@ PARTS_OF_HELP = (
     b"0 to 16 [default: 0]",
     b"--report <R>",
     b"[default: basic] [possible values: basic, full]",
+    b"--format <F>",
+    b"[default: text] [possible values: text, json]",
     b"--help",
     b"--version",
     b"Exit status:",

@@ -199,7 +199,7 @@ fn detail_named(word: &str) -> Detail
     }
 }
 
-/// Tells in which form the answers shall be written, or the default.
+/// Returns the form that was given, or the default.
 fn form_in(matches: &ArgMatches) -> Form
     ensures { ReadsForm (rows_of (found_of matches.now)) result }
 {
@@ -209,7 +209,7 @@ fn form_in(matches: &ArgMatches) -> Form
     }
 }
 
-/// Tells the form of that word: `clap` accepts no other than the two.
+/// Returns the form of that word: `clap` accepts no other than the two.
 fn form_named(word: &str) -> Form
     ensures json { word.now ≡ codes "json" → result ≡ Form.Json }
     ensures text { word.now ≡ codes "text" → result ≡ Form.Text }
