@@ -5,10 +5,10 @@
 //!     standard input ── devices ── ms_trace ── ms_run ─┬─ ms_report ─┬─ devices ── standard output
 //!                         read      parse      replay  └── ms_json ──┘   write
 //!
-//! Kept true: what goes out is the text of the answers to the trace that came in, those of a run of
-//! the machine with one worker. The command line is judged before anything is read, and the whole
-//! trace is read and parsed before anything runs. Stands on `ms_trace`, `ms_run`, `ms_report` and
-//! `ms_json`.
+//! Kept true: what goes out is the text, or the document, of the answers to the trace that came in,
+//! those of a run of the machine with one worker. The command line is judged before anything is
+//! read, and the whole trace is read and parsed before anything runs. Stands on `ms_trace`,
+//! `ms_run`, `ms_report` and `ms_json`.
 #![tactic(auto)]
 
 mod asked;

@@ -78,8 +78,10 @@ fn reason_of(alloc: Global, error: &clap::Error) -> Refused
     }
 }
 
-/// The lines on standard error where several workers are asked for what one alone tells.
+/// The line on standard error where addresses are asked for of several workers.
 const ADDRESSES_ALONE: &str = "metarun: --addresses needs --workers 1\n";
+
+/// The line where a document is.
 const JSON_ALONE: &str = "metarun: --format json needs --workers 1\n";
 
 /// Refuses a command line with this line for standard error.

@@ -20,7 +20,8 @@ use std::io::{Read, Write};
 use std::sync::Wait;
 use std::thread::Threads;
 
-/// Reads a trace, runs it, and writes the answer to each of its lines; answers the exit status.
+/// Reads a trace, runs it, and writes the answer to each of its lines, in the form that is asked for;
+/// answers the exit status.
 ///
 /// 0: each line is answered. 1: the trace has a fault, told on `errors`; 3: memory or a thread was
 /// wanting; in both cases nothing was written to `output`. 5: a device failed, and no more than a
