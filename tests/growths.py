@@ -220,7 +220,8 @@ def tests():
         for workers in (1, 2, 4):
             arguments = (words, text_of(row), workers)
             yield Test(f"growths are refused where {name}, {workers} at work", refuses_each_growth, arguments)
-    for words in (["--help"], ["--version"], ["--granules"], ["--workers", "9"], ["--addresses", "--workers", "2"]):
+    for words in (["--help"], ["--version"], ["--granules"], ["--workers", "9"], ["--addresses", "--workers", "2"],
+                  ["--format", "json", "--workers", "2"]):
         yield Test(f"growths are refused where the words are {' '.join(words)}", refuses_words, (words,))
     for workers in (2, 4, 8):
         arguments = ([], text_of(FOUR_LOADERS), workers)
