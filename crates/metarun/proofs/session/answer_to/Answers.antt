@@ -59,16 +59,16 @@ returns-in-Text-clause-err g c =
 pub returns-in-Text-clause-settled : goal.returns-in-Text-clause-settled
 returns-in-Text-clause-settled g c = want_settles c.text_of.result c.text_of.ensures.err
 
-pub returns-in-Json-clause-ok : goal.returns-in-Json-clause-ok
-returns-in-Json-clause-ok g c =
-    let before = (goal.at.returns-in-Json-clause-ok g c).After-emptied-room in
+pub returns-clause-ok : goal.returns-clause-ok
+returns-clause-ok g c =
+    let before = (goal.at.returns-clause-ok g c).After-emptied-room in
     answers_whole string_bytes c.args.options.now Json _ _ c.in_ok-text.text.items c.in_ok-trace.trace c.document_of.result
     c.in-Json.is (whole g before) (reads g before) c.document_of.ensures.ok
 
-pub returns-in-Json-clause-err : goal.returns-in-Json-clause-err
-returns-in-Json-clause-err g c =
+pub returns-clause-err : goal.returns-clause-err
+returns-clause-err g c =
     want_blames c.args.options.now.max_lines (g.R.Read.remaining c.args.input.now) c.document_of.result
     c.document_of.ensures.err
 
-pub returns-in-Json-clause-settled : goal.returns-in-Json-clause-settled
-returns-in-Json-clause-settled g c = want_settles c.document_of.result c.document_of.ensures.err
+pub returns-clause-settled : goal.returns-clause-settled
+returns-clause-settled g c = want_settles c.document_of.result c.document_of.ensures.err
