@@ -1,8 +1,8 @@
 -- Loaders in order, with one more, and the first of them. `rank` and `largest` use these.
-use Rattle.std.proofs.Common.{◌≡◌, ◌<◌, ◌≤◌, ◌+◌, ◌∙◌, ℕ, zero, suc, Bool, true, false, List, [], ◌∷◌, ◌++◌, length, take, drop, get_or}
+use Rattle.std.proofs.Common.{◌≡◌, ◌<◌, ◌+◌, ◌∙◌, ℕ, zero, suc, Bool, true, false, List, [], ◌∷◌, length, take, get_or}
 use Rattle.std.proofs.Common.{sym, ap, refl, arith, if◌then◌else◌}
 use Rattle.std.specs.Prelude.{cond}
-use Rattle.std.specs.List.{fold, insert}
+use Rattle.std.specs.List.{insert}
 use Rattle.std.proofs.lemmas.List.{take-take}
 use Rattle.std.proofs.lemmas.List.Sums.{fold_more}
 use Rattle.ms_page.specs.declared.holding.Holding.{Holding}

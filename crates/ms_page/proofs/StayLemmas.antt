@@ -1,8 +1,8 @@
 -- Births by column, and sums of them. `stays` and its parts use these.
-use Rattle.std.proofs.Common.{◌≡◌, ◌≢◌, ◌<◌, ◌≤◌, ◌+◌, ◌-◌, ◌^◌, ◌∙◌, ◌==◌, ◌&&◌, ℕ, zero, suc, Bool, true, false}
-use Rattle.std.proofs.Common.{List, [], ◌∷◌, ◌++◌, length, map, take, get_or, set, sum, sym, ap, subst, refl, arith, if◌then◌else◌}
-use Rattle.std.specs.Prelude.{cond, nat_le, nat_lt, nat_eq}
-use Rattle.std.specs.List.{All, count_by, range_with_len, sum_by}
+use Rattle.std.proofs.Common.{◌≡◌, ◌≢◌, ◌<◌, ◌≤◌, ◌+◌, ◌∙◌, ◌==◌, ◌&&◌, ℕ, zero, suc, Bool, true, false}
+use Rattle.std.proofs.Common.{List, [], ◌∷◌, ◌++◌, length, take, get_or, set, sum, sym, ap, subst, refl, arith, if◌then◌else◌}
+use Rattle.std.specs.Prelude.{cond, nat_le, nat_lt}
+use Rattle.std.specs.List.{count_by}
 use Rattle.std.proofs.lemmas.Bool.{eqb-false, eqb-true}
 use Rattle.std.proofs.lemmas.Bool.Decides.{nat_tests}
 use Rattle.std.proofs.lemmas.List.{take_all, take_more, get_or-set_same, get_or-set_other, get_or_default, length-set, same_lists}

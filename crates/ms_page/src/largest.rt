@@ -2,7 +2,7 @@
 //!
 //! Kept true: of all loaders none that is left out comes before one that is in the list. Takes
 //! memory for 21 loaders.
-ghost use Rattle.std.specs.Prelude.{◌≡◌, ◌<◌, ◌≤◌, IfOk, OnOk, vec_len, length, take};
+ghost use Rattle.std.specs.Prelude.{◌≡◌, ◌≤◌, IfOk, OnOk, length, take};
 ghost use Rattle.ms_page.specs.Largest.{comes_before, largest_of, place_of, ranked_with};
 
 use crate::holding::Holding;
