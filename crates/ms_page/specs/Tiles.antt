@@ -2,6 +2,7 @@
 -- choice).
 use Rattle.std.specs.Prelude.{ℕ, ◌-◌, ◌*◌, ◌==◌, ◌&&◌, ◌||◌, Bool, nat_lt, nat_le, if◌then◌else◌}
 use Rattle.ms_page.specs.declared.tiles.Facts.{Facts}
+use Rattle.ms_page.specs.declared.tiles.Tiles.{Tiles}
 use Rattle.ms_page.specs.declared.tiles.Mark.{Mark}
 use Rattle.ms_page.specs.declared.tiles.Mark.TheVariants.{Fine, Look, Problem}
 use Rattle.ms_page.specs.declared.tiles.CommittedCase.{CommittedCase}
@@ -56,7 +57,7 @@ class_case facts =
 abbrev pub loader_case : Facts → LoaderCase
 loader_case facts =
     if facts.unloads == 0 then loaders.NoneUnloaded
-    else (if is_rising facts.low facts.low_after then loaders.Rising else loaders.Level)
+    else (if facts.two_halves && is_rising facts.low facts.low_after then loaders.Rising else loaders.Level)
 
 abbrev pub wants_something : Facts → Bool
 wants_something facts =
@@ -67,6 +68,17 @@ abbrev pub refused_case : Facts → RefusedCase
 refused_case facts =
     if wants_something facts then refused.Wants
     else (if nat_lt 0 facts.refused then refused.Asks else refused.Nothing)
+
+-- What all say.
+abbrev pub tiles_of : Facts → Tiles
+tiles_of facts = record {
+  committed = committed_case facts;
+  used = used_case facts;
+  reserved = reserved_case facts;
+  class_space = class_case facts;
+  loaders = loader_case facts;
+  refused = refused_case facts;
+}
 
 -- How each case is marked.
 abbrev pub committed_mark : CommittedCase → Mark
@@ -98,3 +110,18 @@ abbrev pub refused_mark : RefusedCase → Mark
 refused_mark refused.Wants = Problem
 refused_mark refused.Asks = Look
 refused_mark refused.Nothing = Fine
+
+-- The worse of two marks, and the worst of all tiles'.
+abbrev pub worse : Mark → Mark → Mark
+worse Problem other = Problem
+worse Look Problem = Problem
+worse Look other = Look
+worse Fine other = other
+
+abbrev pub worst_of : Tiles → Mark
+worst_of tiles =
+    worse
+    (worse
+    (worse (committed_mark tiles.committed) (used_mark tiles.used))
+    (worse (reserved_mark tiles.reserved) (class_mark tiles.class_space)))
+    (worse (loader_mark tiles.loaders) (refused_mark tiles.refused))

@@ -1,12 +1,24 @@
-//! The steps of an axis.
-ghost use Rattle.std.specs.Prelude.{◌≡◌, ◌≤◌, ◌*◌, ◌<◌};
-ghost use Rattle.ms_page.specs.Axis.{IsWordStep, steps};
+//! The axes of a chart: a step that a person reads easily, and how many of them.
+//!
+//!     words     1024, 2048, 4096 ..           five steps reach the greatest number at least
+//!     a count   1, 2, 5, 10, 20, 50 ..
+ghost use Rattle.std.specs.Prelude.{◌≡◌, ◌≤◌, ◌*◌, ◌<◌, ◌^◌};
+ghost use Rattle.ms_page.specs.Axis.{IsCountStep, IsDecade, IsWordStep, steps};
 
 /// The least step of an axis of words.
 const LEAST_WORDS: u64 = 1024;
 
 /// The most steps of an axis.
 const MOST_STEPS: u64 = 5;
+
+/// An axis from 0 to `step * steps`. This project's choice.
+#[derive(Clone, Copy, Debug, PartialEq, Eq)]
+pub struct Axis {
+    /// What lies between two ticks: words, or a count.
+    pub step: u64,
+    /// How many steps there are, 1 to 5.
+    pub steps: u64,
+}
 
 /// Returns the step of an axis of words: the least power of two, 1024 or more, of which five reach
 /// a number of words, at most 2^56.
@@ -19,6 +31,63 @@ pub fn word_step(words: u64) -> u64
         step *= 2;
     }
     step
+}
+
+/// Returns the axis of a number of words, at most 2^56.
+pub fn word_axis(words: u64) -> Axis
+    requires { words ≤ 72057594037927936 }
+    ensures step { IsWordStep words result.step }
+    ensures steps { result.steps ≡ steps words result.step }
+    ensures small { result.step * result.steps < 2 ^ 58 }
+{
+    let step = word_step(words);
+    Axis {
+        step,
+        steps: steps(words, step),
+    }
+}
+
+/// Returns the axis of a count: its step is the least of 1, 2, 5, 10, 20, 50 and so on of which
+/// five reach the count.
+pub fn count_axis(count: u64) -> Axis
+    ensures step { IsCountStep count result.step }
+    ensures steps { result.steps ≡ steps count result.step }
+    ensures small { count ≤ 2 ^ 56 → result.step * result.steps < 2 ^ 58 }
+{
+    let step = count_step(count);
+    Axis {
+        step,
+        steps: steps(count, step),
+    }
+}
+
+/// Returns the step of an axis of a count.
+fn count_step(count: u64) -> u64
+    ensures step { IsCountStep count result }
+    ensures some { 0 < result }
+{
+    let whole = u128::from(count);
+    let decade = decade(whole);
+    let step = if 5 * decade >= whole {
+        decade
+    } else if 10 * decade >= whole {
+        2 * decade
+    } else {
+        5 * decade
+    };
+    step as u64
+}
+
+/// Returns the least power of ten of which twenty-five reach a count.
+fn decade(count: u128) -> u128
+    requires { count < 2 ^ 64 }
+    ensures { IsDecade count result }
+{
+    let mut decade = 1;
+    while 25 * decade < count {
+        decade *= 10;
+    }
+    decade
 }
 
 /// Returns how many steps reach a number, one at least.

@@ -3,7 +3,8 @@ ghost use Rattle.std.specs.Prelude.{◌≡◌};
 ghost use Rattle.ms_page.specs.Tiles.{class_case, class_mark, committed_case, committed_mark};
 ghost use Rattle.ms_page.specs.Tiles.{loader_case, loader_mark, refused_case, refused_mark};
 ghost use Rattle.ms_page.specs.Tiles.{reserved_case, reserved_mark, used_case, used_mark};
-ghost use Rattle.ms_page.specs.Tiles.{is_idle, is_near, is_rising, wants_something};
+ghost use Rattle.ms_page.specs.Tiles.{is_idle, is_near, is_rising, tiles_of, wants_something, worse};
+ghost use Rattle.ms_page.specs.Tiles.{worst_of};
 
 /// What the tiles stand on: sizes in words, nodes and lines as counts. This project's choice.
 #[derive(Clone, Copy, Debug)]
@@ -30,6 +31,8 @@ pub struct Facts {
     pub class_peak: u64,
     /// Lines that unloaded a loader.
     pub unloads: u64,
+    /// Whether a line lies between the first unloading and half-way from there to the end.
+    pub two_halves: bool,
     /// The fewest loaders from the first unloading on, before half-way to the end.
     pub low: u64,
     /// The fewest loaders from there on.
@@ -131,6 +134,51 @@ pub enum RefusedCase {
     Nothing,
 }
 
+/// What the six tiles say. This project's choice.
+#[derive(Clone, Copy, Debug, PartialEq, Eq)]
+pub struct Tiles {
+    /// That of committed words, of the limit.
+    pub committed: CommittedCase,
+    /// That of used words, of the committed ones.
+    pub used: UsedCase,
+    /// That of reserved nodes.
+    pub reserved: ReservedCase,
+    /// That of the class space.
+    pub class_space: ClassCase,
+    /// That of loaders.
+    pub loaders: LoaderCase,
+    /// That of refused lines.
+    pub refused: RefusedCase,
+}
+
+impl Tiles {
+    /// Returns the worst mark of the six.
+    pub fn worst(&self) -> Mark
+        ensures { result ≡ worst_of self.now }
+    {
+        let words = worse(self.committed.mark(), self.used.mark());
+        let nodes = worse(self.reserved.mark(), self.class_space.mark());
+        let lines = worse(self.loaders.mark(), self.refused.mark());
+        worse(worse(words, nodes), lines)
+    }
+}
+
+impl Facts {
+    /// Returns what the tiles say.
+    pub fn tiles(&self) -> Tiles
+        ensures { result ≡ tiles_of self.now }
+    {
+        Tiles {
+            committed: self.committed_case(),
+            used: self.used_case(),
+            reserved: self.reserved_case(),
+            class_space: self.class_case(),
+            loaders: self.loader_case(),
+            refused: self.refused_case(),
+        }
+    }
+}
+
 impl Facts {
     /// Returns what the tile of committed words says.
     pub fn committed_case(&self) -> CommittedCase
@@ -194,7 +242,7 @@ impl Facts {
     {
         if self.unloads == 0 {
             LoaderCase::NoneUnloaded
-        } else if is_rising(self.low, self.low_after) {
+        } else if self.two_halves && is_rising(self.low, self.low_after) {
             LoaderCase::Rising
         } else {
             LoaderCase::Level
@@ -300,6 +348,17 @@ impl RefusedCase {
             RefusedCase::Asks => Mark::Look,
             RefusedCase::Nothing => Mark::Fine,
         }
+    }
+}
+
+/// Returns the worse of two marks.
+fn worse(one: Mark, other: Mark) -> Mark
+    ensures { result ≡ worse one other }
+{
+    match (one, other) {
+        (Mark::Problem, _) | (_, Mark::Problem) => Mark::Problem,
+        (Mark::Look, _) | (_, Mark::Look) => Mark::Look,
+        (Mark::Fine, Mark::Fine) => Mark::Fine,
     }
 }
 

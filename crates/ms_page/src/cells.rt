@@ -1,0 +1,107 @@
+//! The cells of the map, by what becomes of them, and the nodes that hold no chunk.
+//!
+//! A cell is a place of 64 KB of a root. Kept true: each number is exactly that of the cells of the
+//! state, over all roots. Takes no memory.
+ghost use Rattle.std.specs.Prelude.{◌≡◌, count_by};
+ghost use Rattle.ms_page.specs.Cells.{cell_counts, cells_of, empty_nodes, is_bare, is_empty_node};
+ghost use Rattle.ms_page.specs.Cells.{is_free, is_of_node, same_place};
+
+use crate::sums::add;
+use ms_base::SLOTS;
+use ms_pool::{Place, RootMap};
+
+/// How many cells of 64 KB there are of each state, over all roots. This project's choice.
+#[derive(Clone, Copy, Debug, PartialEq, Eq)]
+pub struct CellCounts {
+    /// Neither lent nor committed.
+    pub free: u64,
+    /// Committed, and no word is lent.
+    pub free_committed: u64,
+    /// Lent, and no granule is committed.
+    pub lent_uncommitted: u64,
+    /// Lent and committed, and some words are free.
+    pub lent_partly: u64,
+    /// Lent with all words, and committed.
+    pub lent_wholly: u64,
+}
+
+/// Counts the cells of each state.
+pub(crate) fn count_cells(roots: &[RootMap]) -> CellCounts
+    ensures { result ≡ cell_counts roots.now }
+{
+    CellCounts {
+        free: count(Place::Free, roots),
+        free_committed: count(Place::FreeCommitted, roots),
+        lent_uncommitted: count(Place::LentUncommitted, roots),
+        lent_partly: count(Place::LentPartly, roots),
+        lent_wholly: count(Place::LentWholly, roots),
+    }
+}
+
+/// Counts the cells of a state.
+fn count(place: Place, roots: &[RootMap]) -> u64
+    ensures { result ≡ cells_of place roots.now }
+{
+    let mut cells = 0;
+    for root in roots {
+        cells = add(cells, count_in(place, &root.places));
+    }
+    cells
+}
+
+/// Counts the cells of a state in a root.
+fn count_in(place: Place, places: &[Place]) -> u64
+    ensures { result ≡ count_by (same_place place) places.now }
+{
+    places
+        .iter()
+        .filter(|other| is_same(place, **other))
+        .count() as u64
+}
+
+/// Says whether two cells are of the same state.
+fn is_same(place: Place, other: Place) -> bool
+    ensures { result ≡ same_place place other }
+{
+    place == other
+}
+
+/// Counts the nodes outside the class space that hold no chunk.
+pub(crate) fn count_empty_nodes(roots: &[RootMap]) -> u32
+    ensures { result ≡ empty_nodes roots.now }
+{
+    (0..SLOTS).filter(|slot| is_empty_node(roots, *slot)).count() as u32
+}
+
+/// Says whether the node of a slot is there and holds no chunk.
+fn is_empty_node(roots: &[RootMap], slot: u32) -> bool
+    ensures { result ≡ is_empty_node roots.now slot }
+{
+    let is_there = roots.iter().any(|root| is_of_node(slot, root));
+    let is_bare = roots.iter().all(|root| !is_of_node(slot, root) || is_bare(&root.places));
+    is_there && is_bare
+}
+
+/// Says whether a root is one of the two of a slot's node.
+fn is_of_node(slot: u32, root: &RootMap) -> bool
+    ensures { result ≡ is_of_node slot root.now }
+{
+    root.root / 2 == slot
+}
+
+/// Says whether no cell is lent.
+fn is_bare(places: &[Place]) -> bool
+    ensures { result ≡ is_bare places.now }
+{
+    places.iter().all(|place| is_free(*place))
+}
+
+/// Says whether no word of a cell is lent.
+fn is_free(place: Place) -> bool
+    ensures { result ≡ is_free place }
+{
+    match place {
+        Place::Free | Place::FreeCommitted => true,
+        Place::LentUncommitted | Place::LentPartly | Place::LentWholly => false,
+    }
+}
