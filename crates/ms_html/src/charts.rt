@@ -20,6 +20,7 @@ use std::alloc::AllocError;
 const MOST_WORDS: u64 = 72057594037927936;
 
 /// A panel of words in use: of both spaces, or of the class space.
+#[derive(Clone, Copy)]
 struct Panel {
     committed: Series,
     used: Series,

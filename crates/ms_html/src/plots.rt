@@ -23,6 +23,7 @@ const KB: u64 = 128;
 const MB: u64 = 131_072;
 
 /// What a panel is drawn by.
+#[derive(Clone, Copy)]
 pub(crate) struct Plot<'a> {
     pub columns: &'a [Column],
     /// The pixels of its height: a multiple of the axis's steps.

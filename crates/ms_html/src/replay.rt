@@ -7,6 +7,7 @@ use std::alloc::Global;
 use std::collections::BTreeMap;
 
 /// What a page is written of.
+#[derive(Clone, Copy)]
 pub(crate) struct Replay<'a> {
     /// Where a name's bytes are made.
     pub alloc: Global,

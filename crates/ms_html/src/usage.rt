@@ -7,6 +7,7 @@ use ms_report::Amount;
 use std::alloc::AllocError;
 
 /// A row: an amount of both spaces and of the class space.
+#[derive(Clone, Copy)]
 struct Row {
     /// The class of its colour in the style sheet.
     class: &'static str,
