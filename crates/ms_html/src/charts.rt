@@ -6,8 +6,10 @@
 //!     loaders        those at a time, and among them those that are there at the end
 use crate::lanes::{push_axis, push_columns, push_lanes};
 use crate::numbers::{Count, Grouped, Size, narrow};
-use crate::plots::{Plot, Unit, push_area, push_canvas, push_grid, push_limit_label};
-use crate::plots::{push_limit_line, push_mark, push_number_area, push_peak_label};
+use crate::plots::{
+    Plot, Unit, push_area, push_canvas, push_grid, push_limit_label, push_limit_line, push_mark,
+    push_number_area, push_peak_label,
+};
 use crate::replay::Replay;
 use crate::series::Series;
 use crate::usage::push_usage;
@@ -61,7 +63,9 @@ fn push_key(text: &mut String, replay: &Replay<'_>) -> Result<(), AllocError> {
         Count(replay.lines(), "command line", "command lines"),
         Count(replay.columns().len() as u64, "column", "columns")
     )?;
-    text.push_str(r#"<p class="key"><span class="k-live">live</span> <span class="k-used">used, not live</span> <span class="k-committed">committed, not used</span>"#)?;
+    text.push_str(
+        r#"<p class="key"><span class="k-live">live</span> <span class="k-used">used, not live</span> <span class="k-committed">committed, not used</span>"#,
+    )?;
     if !is_near(facts.committed_peak, facts.limit) {
         write!(
             text,

@@ -35,7 +35,8 @@ const BODY: &str = r#"</style>
 "#;
 
 /// What ends the page.
-const FOOT: &str = "</main>\n<footer><p>A word is 8 bytes, a KB 1024 bytes, a MB 1024 KB. Sizes and shares are cut off after one digit. Written by metarun.</p></footer>\n</body>\n</html>\n";
+const FOOT: &str =
+    "</main>\n<footer><p>A word is 8 bytes, a KB 1024 bytes, a MB 1024 KB. Sizes and shares are cut off after one digit. Written by metarun.</p></footer>\n</body>\n</html>\n";
 
 /// Writes the page of a replay with these settings, of which this is the course and these are the
 /// totals of the end, in the room of a text that is done with, which is emptied. The names are texts

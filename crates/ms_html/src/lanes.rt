@@ -156,11 +156,7 @@ pub(crate) fn push_columns(text: &mut String, replay: &Replay<'_>) -> Result<(),
 }
 
 /// Appends a column in numbers.
-fn push_column(
-    text: &mut String,
-    column: &Column,
-    class_space: bool,
-) -> Result<(), AllocError> {
+fn push_column(text: &mut String, column: &Column, class_space: bool) -> Result<(), AllocError> {
     write!(text, "<li><span>{}", Lines::of(column))?;
     if column.lines == 1 {
         push_line(text, column)?;

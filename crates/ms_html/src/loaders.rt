@@ -95,8 +95,7 @@ impl fmt::Display for GrowthCell {
 pub(crate) fn push_who(text: &mut String, replay: &Replay<'_>) -> Result<(), AllocError> {
     text.push_str("<section><h2>Who?</h2>\n")?;
     if replay.picture.loaders.is_empty() {
-        return text
-            .push_str("<p class=\"soft\">No loader is there at the end.</p></section>\n");
+        return text.push_str("<p class=\"soft\">No loader is there at the end.</p></section>\n");
     }
     let all = capacity_of(replay.picture.loaders.as_slice());
     push_sums(text, replay, all)?;
@@ -157,7 +156,9 @@ fn push_heads(text: &mut String, bars: bool) -> Result<(), AllocError> {
     if bars {
         text.push_str(r#"<th scope="col" class="left">used and live of it</th>"#)?;
     }
-    text.push_str("<th scope=\"col\">used</th><th scope=\"col\">live</th><th scope=\"col\">free blocks</th><th scope=\"col\">waste</th><th scope=\"col\">growth</th></tr></thead>\n<tbody>")
+    text.push_str(
+        "<th scope=\"col\">used</th><th scope=\"col\">live</th><th scope=\"col\">free blocks</th><th scope=\"col\">waste</th><th scope=\"col\">growth</th></tr></thead>\n<tbody>",
+    )
 }
 
 /// Appends the cells from the capacity on, and the row's end.
@@ -195,8 +196,10 @@ fn push_bar(text: &mut String, held: &Held) -> Result<(), AllocError> {
 
 /// Appends the table of kinds.
 fn push_kinds(text: &mut String, replay: &Replay<'_>, all: u64) -> Result<(), AllocError> {
-    text.push_str(r#"<div class="wide" tabindex="0" role="region" aria-label="Kinds"><table><caption>Kinds</caption>
-<thead><tr><th scope="col" class="left">kind</th><th scope="col">half-way</th><th scope="col">loaders</th><th scope="col">chunks</th>"#)?;
+    text.push_str(
+        r#"<div class="wide" tabindex="0" role="region" aria-label="Kinds"><table><caption>Kinds</caption>
+<thead><tr><th scope="col" class="left">kind</th><th scope="col">half-way</th><th scope="col">loaders</th><th scope="col">chunks</th>"#,
+    )?;
     push_heads(text, true)?;
     for kind in &replay.picture.kinds {
         push_kind(text, kind, all)?;
@@ -281,11 +284,7 @@ fn push_loader_heads(text: &mut String, replay: &Replay<'_>) -> Result<(), Alloc
 }
 
 /// Appends the cells of what a loader is.
-fn push_loader(
-    text: &mut String,
-    replay: &Replay<'_>,
-    loader: &Holding,
-) -> Result<(), AllocError> {
+fn push_loader(text: &mut String, replay: &Replay<'_>, loader: &Holding) -> Result<(), AllocError> {
     write!(text, r#"<tr><th scope="row">{}</th>"#, loader.name)?;
     if !replay.names.is_empty() {
         push_name_cell(text, replay, loader.name)?;

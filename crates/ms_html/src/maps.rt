@@ -64,7 +64,9 @@ pub(crate) fn push_where(text: &mut String, replay: &Replay<'_>) -> Result<(), A
 
 /// Appends what a map shows, and how many cells are what.
 fn push_key(text: &mut String, cells: &CellCounts) -> Result<(), AllocError> {
-    text.push_str("<p class=\"soft\">Each node of 8 MB is two root chunks of 64 cells, in order of address; a cell is 64 KB. The number below is the slot of the node.</p>\n<ul class=\"cells\">")?;
+    text.push_str(
+        "<p class=\"soft\">Each node of 8 MB is two root chunks of 64 cells, in order of address; a cell is 64 KB. The number below is the slot of the node.</p>\n<ul class=\"cells\">",
+    )?;
     push_count(text, Place::Free, cells.free)?;
     push_count(text, Place::FreeCommitted, cells.free_committed)?;
     push_count(text, Place::LentUncommitted, cells.lent_uncommitted)?;

@@ -7,12 +7,12 @@ use std::alloc::AllocError;
 
 /// Appends the part.
 pub(crate) fn push_settings(text: &mut String, replay: &Replay<'_>) -> Result<(), AllocError> {
-    text.push_str("<section><h2>With what, and what next?</h2>\n<div class=\"pair\"><div>\n<table class=\"settings\"><caption>Settings</caption>\n<tbody>")?;
+    text.push_str(
+        "<section><h2>With what, and what next?</h2>\n<div class=\"pair\"><div>\n<table class=\"settings\"><caption>Settings</caption>\n<tbody>",
+    )?;
     push_limits(text, replay)?;
     push_counts(text, replay)?;
-    text.push_str(
-        "</tbody></table></div>\n<div><h3>Try next</h3>\n<ul class=\"next\">",
-    )?;
+    text.push_str("</tbody></table></div>\n<div><h3>Try next</h3>\n<ul class=\"next\">")?;
     push_advice(text, &replay.picture.advice)?;
     text.push_str("</ul></div></div>\n")?;
     push_command(text, replay)
@@ -93,7 +93,9 @@ fn push_commit_advice(text: &mut String, advice: CommitAdvice) -> Result<(), All
             text,
             "<li>Lines were refused at the commit limit. Run again with <code>--max-granules {granules}</code>, and see how far the peak goes.</li>"
         ),
-        CommitAdvice::Greatest => text.push_str("<li>Lines were refused at the greatest commit limit there is. See who holds what, above.</li>"),
+        CommitAdvice::Greatest => text.push_str(
+            "<li>Lines were refused at the greatest commit limit there is. See who holds what, above.</li>",
+        ),
         CommitAdvice::Lower { granules } => write!(
             text,
             "<li>The commit limit was never met. Every limit from <code>--max-granules {granules}</code> on gives the same replies.</li>"
@@ -125,7 +127,9 @@ fn push_node_advice(text: &mut String, advice: &Advice) -> Result<(), AllocError
 /// Appends which policy to compare with.
 fn push_policy_advice(text: &mut String, advice: PolicyAdvice) -> Result<(), AllocError> {
     match advice {
-        PolicyAdvice::Balanced => text.push_str("<li>Under this policy whole chunks are committed, and stay so until their node is purged. Compare with <code>--policy balanced</code>.</li>"),
+        PolicyAdvice::Balanced => text.push_str(
+            "<li>Under this policy whole chunks are committed, and stay so until their node is purged. Compare with <code>--policy balanced</code>.</li>",
+        ),
         PolicyAdvice::Aggressive { idle } => write!(
             text,
             "<li>{} are committed and not in use. Compare with <code>--policy aggressive</code>, whose granules are of 16 KB.</li>",
@@ -142,14 +146,22 @@ fn push_end_advice(text: &mut String, advice: &Advice) -> Result<(), AllocError>
             text,
             "<li>{} no chunk. A line <code>purge</code> at the end of the trace gives {} back.</li>",
             Count(u64::from(advice.empty_nodes), "node holds", "nodes hold"),
-            if advice.empty_nodes == 1 { "it" } else { "them" }
+            if advice.empty_nodes == 1 {
+                "it"
+            } else {
+                "them"
+            }
         )?;
     }
     if advice.old_loaders {
-        text.push_str("<li>Loaders pile up. In the table of all loaders those whose line is old, and whose like were unloaded, are the ones that something still holds.</li>")?;
+        text.push_str(
+            "<li>Loaders pile up. In the table of all loaders those whose line is old, and whose like were unloaded, are the ones that something still holds.</li>",
+        )?;
     }
     if advice.replies {
-        text.push_str("<li>Some lines were refused for what they ask, not for want of room. The replies tell which, <code>--report full</code> counts them.</li>")?;
+        text.push_str(
+            "<li>Some lines were refused for what they ask, not for want of room. The replies tell which, <code>--report full</code> counts them.</li>",
+        )?;
     }
     Ok(())
 }

@@ -5,7 +5,8 @@
 //! A mark is a word too, and no colour alone.
 
 /// The style sheet of every page.
-pub(crate) const STYLE: &str = r#":root{--bg:#f4f5f7;--card:#fff;--ink:#1b2128;--soft:#5a6571;--line:#e1e5ea;--hair:#edf0f3;
+pub(crate) const STYLE: &str =
+    r#":root{--bg:#f4f5f7;--card:#fff;--ink:#1b2128;--soft:#5a6571;--line:#e1e5ea;--hair:#edf0f3;
 --reserved:#c9d1da;--committed:#d3e2f2;--used:#88b3de;--live:#2f6fb3;--gone:#c8dccf;--stay:#3f8a5f;--limit:#c3292d;
 --unload:#2f8797;--purge:#7a5ca8;--report:#7b8591;--free:#eceff2;--idle:#eaa93c;--lent:#bfd8f1;
 --point:rgba(27,33,40,.15);--fine:#2c7a4b;--look:#95620a;--bad:#c3292d}

@@ -12,8 +12,9 @@ use crate::numbers::{Count, Grouped, Meter, Share, Size, narrow};
 use crate::replay::Replay;
 use ms_base::NODE_WORDS;
 use ms_course::{Course, Reason};
-use ms_page::{ClassCase, CommittedCase, Facts, LoaderCase, Mark, RefusedCase, ReservedCase};
-use ms_page::{UsedCase};
+use ms_page::{
+    ClassCase, CommittedCase, Facts, LoaderCase, Mark, RefusedCase, ReservedCase, UsedCase,
+};
 use std::alloc::AllocError;
 
 /// Appends the tiles.
@@ -139,9 +140,7 @@ fn push_used_sentence(text: &mut String, case: UsedCase, facts: &Facts) -> Resul
             text,
             "<p>Less than half of what is committed is in use: {idle} are idle.</p></div>"
         ),
-        UsedCase::InUse => {
-            writeln!(text, "<p>{idle} are committed and not in use.</p></div>")
-        }
+        UsedCase::InUse => { writeln!(text, "<p>{idle} are committed and not in use.</p></div>") }
     }
 }
 

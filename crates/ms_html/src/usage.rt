@@ -1,6 +1,6 @@
 //! How much of the memory is what at the end, and at most: the full report's six rows, of both
 //! spaces and, where there is one, of the class space.
-use crate::numbers::{WordsCell, Share, narrow};
+use crate::numbers::{Share, WordsCell, narrow};
 use crate::replay::Replay;
 use crate::series::{Lines, Series};
 use ms_report::Amount;
@@ -22,8 +22,10 @@ struct Row {
 
 /// Appends the table.
 pub(crate) fn push_usage(text: &mut String, replay: &Replay<'_>) -> Result<(), AllocError> {
-    text.push_str(r#"<div class="wide" tabindex="0" role="region" aria-label="Usage"><table class="usage"><caption>Usage at the end, and at most</caption>
-<thead>"#)?;
+    text.push_str(
+        r#"<div class="wide" tabindex="0" role="region" aria-label="Usage"><table class="usage"><caption>Usage at the end, and at most</caption>
+<thead>"#,
+    )?;
     push_usage_head(text, has_class_space(replay))?;
     push_taken_rows(text, replay)?;
     push_contents_rows(text, replay)?;
@@ -38,11 +40,17 @@ fn has_class_space(replay: &Replay<'_>) -> bool {
 /// Appends the headings.
 fn push_usage_head(text: &mut String, two: bool) -> Result<(), AllocError> {
     if two {
-        text.push_str("<tr><td></td><th colspan=\"4\" scope=\"colgroup\">both spaces</th><th colspan=\"3\" scope=\"colgroup\" class=\"apart\">class space</th></tr>\n")?;
+        text.push_str(
+            "<tr><td></td><th colspan=\"4\" scope=\"colgroup\">both spaces</th><th colspan=\"3\" scope=\"colgroup\" class=\"apart\">class space</th></tr>\n",
+        )?;
     }
-    text.push_str(r#"<tr><th scope="col">words</th><th scope="col">now</th><th scope="col">per cent</th><th scope="col">peak</th><th scope="col">first at its peak in</th>"#)?;
+    text.push_str(
+        r#"<tr><th scope="col">words</th><th scope="col">now</th><th scope="col">per cent</th><th scope="col">peak</th><th scope="col">first at its peak in</th>"#,
+    )?;
     if two {
-        text.push_str(r#"<th scope="col" class="apart">now</th><th scope="col">per cent</th><th scope="col">peak</th>"#)?;
+        text.push_str(
+            r#"<th scope="col" class="apart">now</th><th scope="col">per cent</th><th scope="col">peak</th>"#,
+        )?;
     }
     text.push_str("</tr></thead>\n<tbody>")
 }
@@ -165,9 +173,5 @@ fn push_class_peak(text: &mut String, replay: &Replay<'_>, row: &Row) -> Result<
     let Some((_, series)) = row.over else {
         return text.push_str("<td></td>");
     };
-    write!(
-        text,
-        "{}",
-        WordsCell(series.amount(&replay.picture.peaks))
-    )
+    write!(text, "{}", WordsCell(series.amount(&replay.picture.peaks)))
 }
