@@ -26,6 +26,8 @@ CELLS = {"-": "free, not committed", ".": "free, committed", "u": "lent, not com
 CLASSES = {"-": "p-free", ".": "p-idle", "u": "p-lent", "o": "p-part", "O": "p-whole"}
 SQUARE = re.compile(r"M(\d+) (\d+)h1v1h-1z")
 MOST_BYTES, MOST_TIME = 400_000, 1.3
+ASKING_TAGS = ("script", "link", "img", "image", "iframe", "object", "embed", "base", "form", "a", "use")
+ASKING_ATTRIBUTES = ("src", "href", "style", "action", "data", "ping")
 WIDTHS, SCHEMES = (400, 1200), ("light", "dark")
 
 
@@ -199,6 +201,15 @@ def page_of(bench, options, trace):
     return ended.output
 
 
+def asks_for_nothing(root):
+    """No element runs anything or names anything to be loaded, and neither does the style sheet."""
+    for element in root.iter():
+        names = [name for name in element.keys() if name in ASKING_ATTRIBUTES or name.startswith("on")]
+        expect(element.tag not in ASKING_TAGS and not names, "an element", element.tag, names)
+    sheet = first(root, "./head/style").text
+    expect("url(" not in sheet and "@import" not in sheet, "the style sheet asks for something")
+
+
 def page_is_the_reports(bench, options, trace):
     """A page says what the full report of the same run says, and gives its bytes."""
     trace = trace + b"report\n"
@@ -207,6 +218,7 @@ def page_is_the_reports(bench, options, trace):
     expect_ended(ended, 0)
     answers = answers_of(ended.output)
     root, report = root_of(page), reports_of(answers)[-1]
+    asks_for_nothing(root)
     usage_is_the_reports(root, report)
     if report.loaders:
         kinds_are_the_reports(root, report)
