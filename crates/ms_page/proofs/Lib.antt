@@ -1,2 +1,9 @@
 pub mod ScaleLemmas
 pub mod EscapeLemmas
+pub mod AxisLemmas
+pub mod PeakLemmas
+pub mod LargestLemmas
+pub mod RankLemmas
+pub mod StayLemmas
+pub mod SumLemmas
+pub mod CellLemmas

@@ -6,5 +6,5 @@ use Rattle.ms_page.specs.declared.holding.Growth.TheVariants.{New, Same, More, L
 -- Live words against those half-way, where there were any.
 abbrev pub growth_between : Option ℕ → ℕ → Growth
 growth_between None live = New
-growth_between (Some then) live =
-    if nat_lt then live then More (live - then) else (if nat_lt live then then Less (then - live) else Same)
+growth_between (Some before) live =
+    if nat_lt before live then More (live - before) else (if nat_lt live before then Less (before - live) else Same)

@@ -1,5 +1,5 @@
 -- The loaders half-way, by name (this project's choice).
-use Rattle.std.specs.Prelude.{◌≡◌, ℕ, ◌<◌, ◌==◌, Bool, List, Option, Some, None, length, reverse, slice_get}
+use Rattle.std.specs.Prelude.{◌≡◌, ℕ, ◌<◌, ◌==◌, Bool, List, Option, None, length, reverse, slice_index_or}
 use Rattle.std.specs.List.{find}
 use Rattle.std.specs.Option.{option_map}
 use Rattle.ms_course.specs.declared.course.LoaderThen.{LoaderThen}
@@ -14,4 +14,4 @@ live_then halfway name = option_map (λ (loader : LoaderThen). loader.live) (fin
 -- A table has them by name.
 pub record IsTable (table : List (Option ℕ)) (halfway : List LoaderThen) : Type 0 where
   pub count : length table ≡ 65536
-  pub each : (name : ℕ) → name < 65536 → slice_get table name ≡ Some (live_then halfway name)
+  pub each : (name : ℕ) → name < 65536 → slice_index_or table name None ≡ live_then halfway name

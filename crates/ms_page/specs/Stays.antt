@@ -31,6 +31,9 @@ with_birth lines position births =
     if nat_lt position lines
     then slice_set births (column_of lines position) (slice_index births (column_of lines position) + 1) else births
 
--- Each number with all before it.
+-- Of so many of the numbers, each with all before it; and of all of them.
+abbrev pub sums_to : List ℕ → ℕ → List ℕ
+sums_to numbers count = map (λ place. sum (take (place + 1) numbers)) (range_with_len 0 count)
+
 abbrev pub sums_of : List ℕ → List ℕ
-sums_of numbers = map (λ place. sum (take (place + 1) numbers)) (range_with_len 0 (length numbers))
+sums_of numbers = sums_to numbers (length numbers)

@@ -67,21 +67,29 @@ fn count_step(count: u64) -> u64
     ensures some { 0 < result }
 {
     let whole = u128::from(count);
-    let decade = decade(whole);
-    let step = if 5 * decade >= whole {
-        decade
-    } else if 10 * decade >= whole {
-        2 * decade
-    } else {
-        5 * decade
-    };
-    step as u64
+    in_decade(decade(whole), whole) as u64
+}
+
+/// Returns the step of a count, by its decade.
+fn in_decade(decade: u128, count: u128) -> u128
+    requires decade { IsDecade count decade }
+    requires small { decade ≤ 2 ^ 65 }
+    ensures { IsCountStep count result }
+{
+    if 5 * decade >= count {
+        return decade;
+    }
+    if 10 * decade >= count {
+        return 2 * decade;
+    }
+    5 * decade
 }
 
 /// Returns the least power of ten of which twenty-five reach a count.
 fn decade(count: u128) -> u128
     requires { count < 2 ^ 64 }
-    ensures { IsDecade count result }
+    ensures decade { IsDecade count result }
+    ensures small { result ≤ 2 ^ 65 }
 {
     let mut decade = 1;
     while 25 * decade < count {

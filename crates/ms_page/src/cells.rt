@@ -70,7 +70,9 @@ fn is_same(place: Place, other: Place) -> bool
 pub(crate) fn count_empty_nodes(roots: &[RootMap]) -> u32
     ensures { result ≡ empty_nodes roots.now }
 {
-    (0..SLOTS).filter(|slot| is_empty_node(roots, *slot)).count() as u32
+    (0..SLOTS)
+        .filter(|slot| is_empty_node(roots, *slot))
+        .count() as u32
 }
 
 /// Says whether the node of a slot is there and holds no chunk.
@@ -78,7 +80,9 @@ fn is_empty_node(roots: &[RootMap], slot: u32) -> bool
     ensures { result ≡ is_empty_node roots.now slot }
 {
     let is_there = roots.iter().any(|root| is_of_node(slot, root));
-    let is_bare = roots.iter().all(|root| !is_of_node(slot, root) || is_bare(&root.places));
+    let is_bare = roots
+        .iter()
+        .all(|root| !is_of_node(slot, root) || is_bare(&root.places));
     is_there && is_bare
 }
 

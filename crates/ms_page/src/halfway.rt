@@ -2,7 +2,8 @@
 //!
 //! Kept true: a table has the live words of each name that there was half-way, of the last loader of
 //! the name where it recurs, and nothing at other names. Takes memory for 65536 names.
-ghost use Rattle.std.specs.Prelude.{◌≡◌, IfOk};
+ghost use Rattle.std.specs.Prelude.{◌≡◌, ◌<◌, ℕ, [], IfOk, List, length, slice_index_or};
+ghost use Rattle.ms_course.specs.declared.course.LoaderThen.{LoaderThen as Then};
 ghost use Rattle.ms_page.specs.Halfway.{IsTable, live_then};
 
 use ms_course::LoaderThen;
@@ -18,9 +19,19 @@ pub(crate) fn live_by_name(
 ) -> Result<Vec<Option<u64>>, AllocError>
     ensures { IfOk result (λ table. IsTable table.items halfway.now) }
 {
-    let mut table = Vec::new(alloc);
-    table.resize(NAMES, None)?;
+    let mut table = empty(alloc, NAMES)?;
     fill(&mut table, halfway);
+    Ok(table)
+}
+
+/// Makes a table of so many names that has nothing at any.
+fn empty(alloc: Global, names: usize) -> Result<Vec<Option<u64>>, AllocError>
+    ensures count { IfOk result (λ table. length table.items ≡ names) }
+    ensures each { IfOk result (λ table. (name : ℕ) → name < names
+        → slice_index_or table.items name None ≡ None) }
+{
+    let mut table = Vec::new(alloc);
+    table.resize(names, None)?;
     Ok(table)
 }
 
@@ -37,7 +48,7 @@ fn fill(table: &mut Vec<Option<u64>>, halfway: &[LoaderThen])
 /// Returns the live words of a name half-way, where there was such a loader.
 pub(crate) fn live_at(table: &[Option<u64>], name: u16) -> Option<u64>
     requires { length table.now ≡ 65536 }
-    ensures { (halfway : List LoaderThen) → IsTable table.now halfway
+    ensures { (halfway : List Then) → IsTable table.now halfway
         → result ≡ live_then halfway name }
 {
     table[usize::from(name)]

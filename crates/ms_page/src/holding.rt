@@ -44,13 +44,13 @@ pub struct Holding {
 }
 
 /// Compares live words with those half-way.
-pub(crate) fn growth_between(then: Option<u64>, live: u64) -> Growth
-    ensures { result ≡ growth_between then live }
+pub(crate) fn growth_between(before: Option<u64>, live: u64) -> Growth
+    ensures { result ≡ growth_between before live }
 {
-    match then {
+    match before {
         None => Growth::New,
-        Some(then) if then < live => Growth::More(live - then),
-        Some(then) if live < then => Growth::Less(then - live),
+        Some(before) if before < live => Growth::More(live - before),
+        Some(before) if live < before => Growth::Less(before - live),
         Some(_) => Growth::Same,
     }
 }

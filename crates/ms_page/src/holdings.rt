@@ -49,11 +49,11 @@ fn hold(course: &Course, table: &[Option<u64>], loader: &LoaderDetails) -> Holdi
 {
     let since = since_of(course, loader.name);
     let live = add(loader.space.live, loader.class_space.live);
-    let then = live_at(table, loader.name);
+    let before = live_at(table, loader.name);
     let growth = if course.schedule().half <= since.position {
         Growth::New
     } else {
-        growth_between(then, live)
+        growth_between(before, live)
     };
     held_by(loader, since, growth)
 }

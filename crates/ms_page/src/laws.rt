@@ -2,7 +2,8 @@
 //! that does nothing.
 ghost use Rattle.ms_page.specs.Laws.{SomethingIsDrawn, BarsStayInTheirTrack, MoreIsNoShorter};
 ghost use Rattle.ms_page.specs.Laws.{AreasNest, StepsAreFew, ProblemsAreRefusals};
-ghost use Rattle.ms_page.specs.Laws.{EscapedTextHasNoMarkup};
+ghost use Rattle.ms_page.specs.Laws.{CellsAddUp, EscapedTextHasNoMarkup, LargestComeFirst};
+ghost use Rattle.ms_page.specs.Laws.{LoadersAreListed, PeaksAreReached};
 
 /// Something is never drawn as nothing.
 pub fn something_is_drawn()
@@ -33,6 +34,27 @@ pub fn steps_are_few()
 /// A tile says that there is a problem exactly where a line was refused for want of what it shows.
 pub fn problems_are_refusals()
     ensures { ProblemsAreRefusals }
+{}
+
+/// The peak of an amount over columns is what one of them has, and none has more.
+pub fn peaks_are_reached()
+    ensures { PeaksAreReached }
+{}
+
+/// The list of loaders has each loader of the end once, in their order.
+pub fn loaders_are_listed()
+    ensures { LoadersAreListed }
+{}
+
+/// The order of the largest loaders is one of all loaders, and of two neighbours the second doesn't
+/// come before the first: so what is left out of the first twenty comes after them.
+pub fn largest_come_first()
+    ensures { LargestComeFirst }
+{}
+
+/// The numbers of cells add up to 64 for each root.
+pub fn cells_add_up()
+    ensures { CellsAddUp }
 {}
 
 /// Whatever a text of the input is, what is written of it has no `<`, no `>` and no `"`.

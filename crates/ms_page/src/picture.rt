@@ -101,7 +101,11 @@ impl Picture {
         let cells = count_cells(roots_in(&end.details));
         let usage = weigh(end, settings);
         let peaks = with_reserved(class_words(settings), peaks_of(course.columns().columns()));
-        let Lists { loaders, largest, stays } = lists;
+        let Lists {
+            loaders,
+            largest,
+            stays,
+        } = lists;
         Ok(Picture {
             facts,
             tiles,

@@ -5,7 +5,8 @@
 //!
 //! Kept true: the number of a column counts each loader of the end whose birth lies in it or in an
 //! earlier one. Takes memory for two numbers a column.
-ghost use Rattle.std.specs.Prelude.{◌≡◌, ◌≤◌, ◌<◌, ◌^◌, ℕ, IfOk, length, sum};
+ghost use Rattle.std.specs.Prelude.{◌≡◌, ◌<◌, ◌-◌, ◌^◌, ℕ, [], IfOk, length, sum};
+ghost use Rattle.std.specs.List.{All};
 ghost use Rattle.ms_page.specs.Stays.{AreBirths, stays_of, sums_of, with_birth};
 
 use crate::holding::Holding;
@@ -29,7 +30,8 @@ pub(crate) fn stays(
 /// Counts the loaders that came in each column.
 fn count_births(births: &mut Vec<u64>, lines: u32, holdings: &[Holding])
     requires { AreBirths lines [] births.old.items }
-    ensures { AreBirths lines holdings.now births.new.items }
+    ensures births { AreBirths lines holdings.now births.new.items }
+    ensures count { length births.new.items ≡ length births.old.items }
 {
     for holding in holdings {
         count_birth(births, lines, holding.since.position);
