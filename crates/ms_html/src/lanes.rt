@@ -9,7 +9,7 @@ use ms_page::scaled;
 use std::alloc::AllocError;
 
 /// What a lane counts.
-#[derive(Clone, Copy, Debug, PartialEq, Eq)]
+#[derive(Clone, Copy)]
 enum Lane {
     Unloads,
     Purges,

@@ -4,7 +4,7 @@ use ms_course::{Column, Standing};
 use std::fmt;
 
 /// An amount that a chart follows over the columns.
-#[derive(Clone, Copy, Debug, PartialEq, Eq)]
+#[derive(Clone, Copy)]
 pub(crate) enum Series {
     Reserved,
     Committed,
