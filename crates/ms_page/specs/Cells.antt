@@ -48,10 +48,13 @@ is_bare places = list_all is_free places
 abbrev pub is_of_node : ℕ → RootMap → Bool
 is_of_node slot root = root.root / 2 == slot
 
+-- A root is of another node, or holds no chunk.
+abbrev pub spares_node : ℕ → RootMap → Bool
+spares_node slot root = not (is_of_node slot root) || is_bare root.places
+
 -- A slot's node is there and holds no chunk.
 abbrev pub is_empty_node : List RootMap → ℕ → Bool
-is_empty_node roots slot =
-    list_any (is_of_node slot) roots && list_all (λ root. not (is_of_node slot root) || is_bare root.places) roots
+is_empty_node roots slot = list_any (is_of_node slot) roots && list_all (spares_node slot) roots
 
 -- How many such nodes there are outside the class space.
 abbrev pub empty_nodes : List RootMap → ℕ

@@ -3,8 +3,9 @@
 //! A cell is a place of 64 KB of a root. Kept true: each number is exactly that of the cells of the
 //! state, over all roots. Takes no memory.
 ghost use Rattle.std.specs.Prelude.{◌≡◌, count_by};
+ghost use Rattle.std.specs.List.{list_all, list_any};
 ghost use Rattle.ms_page.specs.Cells.{cell_counts, cells_of, empty_nodes, is_bare, is_empty_node};
-ghost use Rattle.ms_page.specs.Cells.{is_free, is_of_node, same_place};
+ghost use Rattle.ms_page.specs.Cells.{is_free, is_of_node, same_place, spares_node};
 
 use crate::sums::add;
 use ms_base::SLOTS;
@@ -79,11 +80,28 @@ pub(crate) fn count_empty_nodes(roots: &[RootMap]) -> u32
 fn is_empty_node(roots: &[RootMap], slot: u32) -> bool
     ensures { result ≡ is_empty_node roots.now slot }
 {
-    let is_there = roots.iter().any(|root| is_of_node(slot, root));
-    let is_bare = roots
-        .iter()
-        .all(|root| !is_of_node(slot, root) || is_bare(&root.places));
-    is_there && is_bare
+    is_there(roots, slot) & is_spared(roots, slot)
+}
+
+/// Says whether some root is of a slot's node.
+fn is_there(roots: &[RootMap], slot: u32) -> bool
+    ensures { result ≡ list_any (is_of_node slot) roots.now }
+{
+    roots.iter().any(|root| is_of_node(slot, root))
+}
+
+/// Says whether no root of a slot's node holds a chunk.
+fn is_spared(roots: &[RootMap], slot: u32) -> bool
+    ensures { result ≡ list_all (spares_node slot) roots.now }
+{
+    roots.iter().all(|root| spares_node(slot, root))
+}
+
+/// Says whether a root is of another node, or holds no chunk.
+fn spares_node(slot: u32, root: &RootMap) -> bool
+    ensures { result ≡ spares_node slot root.now }
+{
+    !is_of_node(slot, root) || is_bare(&root.places)
 }
 
 /// Says whether a root is one of the two of a slot's node.

@@ -93,7 +93,7 @@ impl Picture {
             ≡ cell_counts (roots_in end.now.details)) }
     {
         let details = loaders_in(&end.details);
-        let lists = lists(alloc, course, details)?;
+        let lists = make_lists(alloc, course, details)?;
         let facts = facts_of(settings, course, end);
         let tiles = facts.tiles();
         let advice = advise(&facts, settings);
@@ -122,7 +122,11 @@ impl Picture {
 }
 
 /// Makes the lists.
-fn lists(alloc: Global, course: &Course, details: &[LoaderDetails]) -> Result<Lists, AllocError>
+fn make_lists(
+    alloc: Global,
+    course: &Course,
+    details: &[LoaderDetails],
+) -> Result<Lists, AllocError>
     ensures { IfOk result (λ lists. AreLists course.now details.now lists) }
 {
     let loaders = holdings(alloc, course, details)?;
