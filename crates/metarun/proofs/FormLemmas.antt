@@ -12,6 +12,7 @@ use Rattle.ms_trace.specs.declared.trace.Trace.{Trace}
 use Rattle.metarun.specs.Failure.{Blames, IsSettled, IsWant, failure_of_running}
 use Rattle.metarun.specs.Session.{IsIn, IsOutput, IsWhole}
 use Rattle.metarun.specs.declared.asked.Form.{Form}
+use Rattle.metarun.specs.declared.asked.Form.TheVariants as form
 use Rattle.metarun.specs.declared.asked.Options.{Options}
 use Rattle.metarun.specs.declared.failure.Failure.{Failure}
 use Rattle.metarun.specs.declared.failure.Failure.TheVariants as failure
@@ -32,6 +33,12 @@ answers_whole bytes_of options form old left text trace (Ok written) same whole 
   },
 )
 answers_whole bytes_of options form old left text trace (Err why) same whole reads is = tt
+
+-- A page is one whatever its text is.
+pub any_page : {S : Type 0} (bytes_of : S → List ℕ) (options : Options) (trace : Trace) (given : Result S Failure)
+    → IfOk given (λ written. IsIn form.Html options trace (bytes_of written))
+any_page bytes_of options trace (Ok written) = tt
+any_page bytes_of options trace (Err why) = tt
 
 -- Want is no fault of the trace, and leaves no account open.
 pub want_blames : {S : Type 0} (limit : ℕ) (old : Option (List ℕ)) (given : Result S Failure) → IfErr given IsWant

@@ -7,3 +7,4 @@ pub mod OptionLemmas
 pub mod CommandLineLemmas
 pub mod ChartLemmas
 pub mod FormLemmas
+pub mod WatchLemmas

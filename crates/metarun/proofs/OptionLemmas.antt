@@ -11,7 +11,7 @@ use Rattle.ms_base.specs.declared.policy.Policy.TheVariants.{Balanced, Aggressiv
 use Rattle.ms_loaders.specs.declared.details.Detail.{Detail}
 use Rattle.ms_loaders.specs.declared.details.Detail.TheVariants.{Basic, Full}
 use Rattle.metarun.specs.declared.asked.Form.{Form}
-use Rattle.metarun.specs.declared.asked.Form.TheVariants.{Text as TextForm, Json}
+use Rattle.metarun.specs.declared.asked.Form.TheVariants.{Text as TextForm, Html, Json}
 use Rattle.metarun.specs.Asked.{ReadsDetail, ReadsForm, ReadsNumber, ReadsPolicy, number_of}
 
 -- A numeral, after a plus or without one, is read as the number that it writes.
@@ -75,13 +75,16 @@ pub form_unasked : (rows : List Row) (chosen : Form) → first_of (codes "format
 form_unasked rows chosen none is = record {
   absent = λ _. is;
   text = λ _. is;
+  html = λ word. absurd (none-some (codes "html") (sym none ∙ word));
   json = λ word. absurd (none-some (codes "json") (sym none ∙ word));
 }
 
 pub form_given : (rows : List Row) (word : List ℕ) (chosen : Form) → first_of (codes "format") rows ≡ Some word
-    → (word ≡ codes "text" → chosen ≡ TextForm) → (word ≡ codes "json" → chosen ≡ Json) → ReadsForm rows chosen
-form_given rows word chosen found text json = record {
+    → (word ≡ codes "text" → chosen ≡ TextForm) → (word ≡ codes "html" → chosen ≡ Html) → (word ≡ codes "json" → chosen ≡ Json)
+    → ReadsForm rows chosen
+form_given rows word chosen found text html json = record {
   absent = λ empty. absurd (none-some word (sym empty ∙ found));
   text = λ same. text (same_Some word (codes "text") (sym found ∙ same));
+  html = λ same. html (same_Some word (codes "html") (sym found ∙ same));
   json = λ same. json (same_Some word (codes "json") (sym found ∙ same));
 }

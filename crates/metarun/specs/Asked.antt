@@ -75,6 +75,7 @@ pub record ReadsDetail (rows : List Row) (chosen : Detail) : Type 0 where
 pub record ReadsForm (rows : List Row) (chosen : Form) : Type 0 where
   pub absent : first_of (codes "format") rows ≡ None → chosen ≡ form.Text
   pub text : first_of (codes "format") rows ≡ Some (codes "text") → chosen ≡ form.Text
+  pub html : first_of (codes "format") rows ≡ Some (codes "html") → chosen ≡ form.Html
   pub json : first_of (codes "format") rows ≡ Some (codes "json") → chosen ≡ form.Json
 
 -- The options are those that the rows give, in which `clap` has what it found for each option.
@@ -115,4 +116,4 @@ Says line OutOfMemory = ⊤
 abbrev pub SaysAlone : Refused → Type 0
 SaysAlone refused =
     Says (codes "metarun: --addresses needs --workers 1\n") refused
-    ⊎ Says (codes "metarun: --format json needs --workers 1\n") refused
+    ⊎ Says (codes "metarun: --format html or json needs --workers 1\n") refused

@@ -39,7 +39,7 @@ pub record IsChoiceRule (name : Text) (words : List Text) (rule : Rule) : Type 0
   pub is : rule ≡ choice_rule name choices
 
 -- `--policy P`, the words of the three policies, `--report R`, those of the two reports, and
--- `--format F`, those of the two forms.
+-- `--format F`, those of the three forms.
 abbrev pub IsPolicyRule : Rule → Type 0
 IsPolicyRule = IsChoiceRule (codes "policy") (codes "balanced" ∷ codes "aggressive" ∷ codes "none" ∷ [])
 
@@ -47,7 +47,7 @@ abbrev pub IsReportRule : Rule → Type 0
 IsReportRule = IsChoiceRule (codes "report") (codes "basic" ∷ codes "full" ∷ [])
 
 abbrev pub IsFormatRule : Rule → Type 0
-IsFormatRule = IsChoiceRule (codes "format") (codes "text" ∷ codes "json" ∷ [])
+IsFormatRule = IsChoiceRule (codes "format") (codes "text" ∷ codes "html" ∷ codes "json" ∷ [])
 
 -- A program with a name and a version, which is told at `--version`; help is told at `--help`.
 abbrev pub named : Text → App

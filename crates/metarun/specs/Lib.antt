@@ -4,3 +4,4 @@ pub mod Asked
 pub mod CommandLine
 pub mod Start
 pub mod Charting
+pub mod Watching

@@ -1,5 +1,5 @@
 -- What a session writes for a trace (this project's choice).
-use Rattle.std.specs.Prelude.{◌≡◌, ◌⊎◌, ℕ, List, [], ◌∷◌, ◌++◌, Option, Some, IfSome, codes, length, take}
+use Rattle.std.specs.Prelude.{⊤, ◌≡◌, ◌⊎◌, ℕ, List, [], ◌∷◌, ◌++◌, Option, Some, IfSome, codes, length, take}
 use Rattle.std.specs.Io.KnownBytes.{Appends, IsAtEnd, Keeps}
 use Rattle.std.specs.List.{All}
 use Rattle.ms_base.specs.declared.step.Reply.{Reply}
@@ -29,7 +29,7 @@ use Rattle.ms_run.specs.Replay.{Advances, IsDetailed, IsReplay}
 use Rattle.ms_run.specs.Seeing.{Sight}
 use Rattle.metarun.specs.Charting.{moments_of}
 use Rattle.metarun.specs.declared.asked.Form.{Form}
-use Rattle.metarun.specs.declared.asked.Form.TheVariants.{Text, Json}
+use Rattle.metarun.specs.declared.asked.Form.TheVariants.{Text, Html, Json}
 use Rattle.metarun.specs.declared.asked.Options.{Options}
 
 -- What follows the reply to a command, before which these replies were given: where a report is
@@ -80,9 +80,11 @@ pub record IsDocument (options : Options) (trace : Trace) (output : List ℕ) : 
       ≡ compact_text (document options.addresses options.settings (length trace.lines) answers columns.columns last)
       ++ codes "\n"
 
--- What a trace gives in a form.
+-- What a trace gives in a form. No clause speaks of a page's text: `watched` says of which run its course and
+-- totals are, and `ms_page` which values it shows of them.
 abbrev pub IsIn : Form → Options → Trace → List ℕ → Type 0
 IsIn Text options trace output = IsText options trace output
+IsIn Html options trace output = ⊤
 IsIn Json options trace output = IsDocument options trace output
 
 -- The output is what a session with these options writes for the text: the text reads as a trace of no

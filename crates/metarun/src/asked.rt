@@ -9,6 +9,8 @@ use ms_report::Detail;
 pub enum Form {
     /// A line for each reply, and reports.
     Text,
+    /// One HTML page.
+    Html,
     /// One JSON document.
     Json,
 }

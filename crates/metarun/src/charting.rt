@@ -54,7 +54,7 @@ impl Observer for Chart {
 }
 
 /// Names what a line asks as a course does.
-fn asked_in(line: &Line) -> Asked
+pub(crate) fn asked_in(line: &Line) -> Asked
     ensures { result ≡ asked_of line.now.command }
 {
     match line.command() {

@@ -18,6 +18,7 @@ mod failure;
 mod options;
 mod session;
 mod start;
+mod watching;
 
 use crate::start::start;
 use std::env;

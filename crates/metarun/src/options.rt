@@ -81,8 +81,8 @@ fn reason_of(alloc: Global, error: &clap::Error) -> Refused
 /// The line on standard error where addresses are asked for of several workers.
 const ADDRESSES_ALONE: &str = "metarun: --addresses needs --workers 1\n";
 
-/// The line where a document is.
-const JSON_ALONE: &str = "metarun: --format json needs --workers 1\n";
+/// The line where a page or a document is.
+const FORM_ALONE: &str = "metarun: --format html or json needs --workers 1\n";
 
 /// Refuses a command line with this line for standard error.
 fn refused_with(alloc: Global, line: &str) -> Refused
@@ -108,7 +108,7 @@ fn chosen(alloc: Global, matches: &ArgMatches) -> Result<Options, Refused>
     }
     let form = form_in(matches);
     if is_other(form) && workers > 1 {
-        return Err(refused_with(alloc, JSON_ALONE));
+        return Err(refused_with(alloc, FORM_ALONE));
     }
     Ok(Options {
         settings: Settings {
@@ -211,12 +211,14 @@ fn form_in(matches: &ArgMatches) -> Form
     }
 }
 
-/// Returns the form of that word: `clap` accepts no other than the two.
+/// Returns the form of that word: `clap` accepts no other than the three.
 fn form_named(word: &str) -> Form
+    ensures html { word.now ≡ codes "html" → result ≡ Form.Html }
     ensures json { word.now ≡ codes "json" → result ≡ Form.Json }
     ensures text { word.now ≡ codes "text" → result ≡ Form.Text }
 {
     match word {
+        "html" => Form::Html,
         "json" => Form::Json,
         _ => Form::Text,
     }
@@ -228,7 +230,7 @@ fn is_other(form: Form) -> bool
 {
     match form {
         Form::Text => false,
-        Form::Json => true,
+        Form::Html | Form::Json => true,
     }
 }
 
@@ -241,7 +243,8 @@ const ABOUT: &str = "Runs a trace of class loader operations over an elastic met
 Standard input has the trace: one operation a line, as 'new 1 standard' (a loader), 'alloc 1 1 10'
 (a block of 10 words), 'free 1 1', 'unload 1', 'purge' or 'report'. Standard output gets a reply
 for each operation: its line number, and 'ok', 'at A', 'value V' or 'refused NAME'; after a report's
-'ok' the totals. With --format json it gets one document in their place. A word is 8 bytes.";
+'ok' the totals. With --format html or json it gets one page or document in their place. A word is
+8 bytes.";
 
 /// The last words of the help.
 const AFTER: &str = "Exit status:
@@ -420,10 +423,10 @@ fn format<'a>(alloc: Global) -> Arg<'a>
     ensures rule { IsFormatRule (rule_of result) }
     ensures own { result.global ≡ false }
 {
-    let forms = ["text", "json"].as_slice();
+    let forms = ["text", "html", "json"].as_slice();
     Arg::new(alloc, "format")
         .long("format")
         .value_name("F")
         .value_parser(forms)
-        .help("Write text, or one JSON document; json needs --workers 1 [default: text]")
+        .help("Write text, one HTML page, or one JSON document; the latter two need --workers 1 [default: text]")
 }

@@ -11,11 +11,14 @@ use crate::asked::{Form, Options};
 use crate::charting::Chart;
 use crate::devices::{most_bytes, read_text, write_text};
 use crate::failure::Failure;
+use crate::watching::watched;
+use ms_html::page;
 use ms_json::Document;
 use ms_report::AnswerText;
 use ms_run::{NoGate, replay_into, replay_observed};
 use ms_trace::{Trace, parse_within};
 use std::alloc::Global;
+use std::collections::BTreeMap;
 use std::io::{Read, Write};
 use std::sync::Wait;
 use std::thread::Threads;
@@ -76,6 +79,7 @@ fn answer_to<T: Threads + Wait + Sync, R: Read>(
     let room = emptied(text);
     match options.form {
         Form::Text => text_of(rt, alloc, options, &trace, room),
+        Form::Html => page_of(alloc, options, &trace, room),
         Form::Json => document_of(alloc, options, &trace, room),
     }
 }
@@ -115,6 +119,23 @@ fn document_of(
     let mut document = Document::new(alloc, room, options.addresses)?;
     let end = replay_observed(alloc, trace, settings, &mut document, &mut chart)?;
     let text = document.finish(&settings, lines, chart.columns.columns(), &end)?;
+    Ok(text)
+}
+
+/// Runs a trace by one worker, and gives the page that shows its course and its end, in this room.
+fn page_of(
+    alloc: Global,
+    options: &Options,
+    trace: &Trace,
+    room: String,
+) -> Result<String, Failure>
+    requires few { length trace.now.lines < 2 ^ 32 }
+    ensures err { IfErr result IsWant }
+{
+    let settings = options.settings;
+    let (course, end) = watched(alloc, settings, trace)?;
+    let names = BTreeMap::new(alloc);
+    let text = page(alloc, room, &settings, &course, &end, &names)?;
     Ok(text)
 }
 

@@ -10,7 +10,7 @@ returns-in-Some c =
     let given : first_value found (codes "format") ≡ Some c.in-Some.word.now = search rules in
     form_given (rows_of found) c.in-Some.word.now c.form_named.result
     (sym (first_value-rows found (codes "format")) ∙ given)
-    c.form_named.ensures.text c.form_named.ensures.json
+    c.form_named.ensures.text c.form_named.ensures.html c.form_named.ensures.json
 
 pub returns-in-None : goal.returns-in-None
 returns-in-None c =

@@ -4,8 +4,8 @@ use Rattle.std.proofs.lemmas.Result.{err_from_is_err_and}
 use Rattle.ms_trace.specs.Faults.{BlamesText}
 use Rattle.ms_trace.specs.Spelling.{ReadsAs}
 use Rattle.metarun.specs.Session.{IsWhole}
-use Rattle.metarun.specs.declared.asked.Form.TheVariants.{Text, Json}
-use Rattle.metarun.proofs.FormLemmas.{answers_whole, few_lines, want_blames, want_settles}
+use Rattle.metarun.specs.declared.asked.Form.TheVariants.{Text, Html, Json}
+use Rattle.metarun.proofs.FormLemmas.{answers_whole, any_page, few_lines, want_blames, want_settles}
 use Rattle.metarun.proofs.InputLemmas.{blames_whole, is_whole}
 use Rattle.metarun.proofs.session.answer_to.Goals as goal
 use Rattle.metarun.proofs.session.answer_to.Goals.{After-emptied-room}
@@ -58,6 +58,25 @@ returns-in-Text-clause-err g c =
 
 pub returns-in-Text-clause-settled : goal.returns-in-Text-clause-settled
 returns-in-Text-clause-settled g c = want_settles c.text_of.result c.text_of.ensures.err
+
+pub page_of-requires : goal.page_of-requires
+page_of-requires g c =
+    let few = few_lines c.args.options.now.max_lines c.in_ok-trace.trace.lines c.in_ok-trace.ensures.in_order in
+    omega (arith, few, c.args.options.now.lines_few)
+
+pub returns-in-Html-clause-ok : goal.returns-in-Html-clause-ok
+returns-in-Html-clause-ok g c =
+    let before = (goal.at.returns-in-Html-clause-ok g c).After-emptied-room in
+    answers_whole string_bytes c.args.options.now Html _ _ c.in_ok-text.text.items c.in_ok-trace.trace c.page_of.result
+    c.in-Html.is (whole g before) (reads g before)
+    (any_page string_bytes c.args.options.now c.in_ok-trace.trace c.page_of.result)
+
+pub returns-in-Html-clause-err : goal.returns-in-Html-clause-err
+returns-in-Html-clause-err g c =
+    want_blames c.args.options.now.max_lines (g.R.Read.remaining c.args.input.now) c.page_of.result c.page_of.ensures
+
+pub returns-in-Html-clause-settled : goal.returns-in-Html-clause-settled
+returns-in-Html-clause-settled g c = want_settles c.page_of.result c.page_of.ensures
 
 pub returns-clause-ok : goal.returns-clause-ok
 returns-clause-ok g c =
