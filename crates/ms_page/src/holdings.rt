@@ -42,7 +42,7 @@ fn list(
     Ok(holdings)
 }
 
-/// Tells what a loader holds.
+/// Returns what a loader holds.
 fn hold(course: &Course, table: &[Option<u64>], loader: &LoaderDetails) -> Holding
     requires { IsTable table.now course.now.halfway }
     ensures { result ≡ holding_of course.now loader.now }
