@@ -13,7 +13,7 @@ from grammar import is_command, lines_of
 from growths import MOST_GROWTHS, OUT_OF_MEMORY, Refusing
 from lengths import churn
 from outputs import KINDS, NODE_WORDS, PEAKS, SETTINGS, SUMS, answers_of, report_of
-from program import CLOSED, MEGABYTE
+from program import CLOSED, MEGABYTE, OneProcessor
 
 FORM = ("--format", "json")
 SCHEMA = json.loads(content_of("docs", "replay.schema.json"))
@@ -230,13 +230,13 @@ def an_example_is_the_text(bench, folder, name, options):
 
 
 def many_replies_are_the_text(bench):
-    """A trace with all sorts of lines, in each setting."""
+    """A trace with all sorts of lines, in each setting; and one with more lines than columns."""
     for words in ([], ["--class-nodes", "1"], ["--addresses"], ["--policy", "aggressive", "--class-nodes", "1", "--addresses"],
                   ["--max-granules", "1", "--nodes", "1"], ["--policy", "none"]):
         is_the_text(bench, words, MANY)
         shows_each_state(bench, words, MANY)
-        is_the_text(bench, words, MANY * 30)
-        shows_each_state(bench, words, MANY * 30)
+    is_the_text(bench, ["--class-nodes", "1"], MANY * 30)
+    shows_each_state(bench, ["--class-nodes", "1"], MANY * 30)
 
 
 def an_empty_trace_has_no_line(bench):
@@ -299,7 +299,8 @@ def long_traces_cost_little(bench):
     text = churn(LINES)
     runs = {}
     for words in (("--report", "full"), FORM):
-        ended = [bench.run(words, text, seconds=100, limits={resource.RLIMIT_AS: MOST_MEMORY}) for _ in range(5)]
+        with OneProcessor():
+            ended = [bench.run(words, text, seconds=100, limits={resource.RLIMIT_AS: MOST_MEMORY}) for _ in range(5)]
         for run in ended:
             expect_ended(run, 0)
         runs[words] = min(run.seconds for run in ended)

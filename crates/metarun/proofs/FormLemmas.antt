@@ -1,5 +1,5 @@
 -- What is written in a form, and how a run of one fails. Used by `answer_to` and what it calls.
-use Rattle.std.proofs.Common.{◌≡◌, ◌≤◌, ◌<◌, ◌+◌, ℕ, Bool, List, [], ◌∷◌, Option, Some, None, Result, Ok, Err, arith, length, sym}
+use Rattle.std.proofs.Common.{◌≡◌, ◌≤◌, ◌<◌, ◌+◌, ℕ, List, [], ◌∷◌, Option, Some, None, Result, Ok, Err, arith, length, sym}
 use Rattle.std.proofs.Common.{◌&&◌, true, subst, ltb, leb}
 use Rattle.std.specs.Prelude.{IfErr, IfOk, IfSome}
 use Rattle.std.proofs.lemmas.Bool.{and_parts, ltb-true, leb-true}
