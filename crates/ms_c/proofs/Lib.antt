@@ -1,2 +1,5 @@
+pub mod AloneLemmas
 pub mod AsBox
+pub mod AsSeat
+pub mod ServedLemmas
 pub mod Walking
