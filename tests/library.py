@@ -110,6 +110,11 @@ def commits_real_memory(bench):
     return printed([linked(bench, EXAMPLES, "runtime")]).decode().strip().replace("\n", "; ")
 
 
+def answers_each_seat(bench):
+    """Each call of a seat and each of its statuses, worked by hand, with each growth refused in turn."""
+    return printed([linked(bench, os.path.join(FOLDER, "c"), "seats", WRAPPED)]).decode().strip()
+
+
 SERVED = "{} threads, 64 loaders: each word is as it was written\nall loaders went, and no granule is left\n"
 
 
@@ -225,6 +230,7 @@ def tests():
     yield Test("library: the example's Makefile builds it", is_made_by_its_makefile)
     yield Test("library: the Makefile says what is missing", makefile_says_what_is_missing)
     yield Test("library: real memory follows the account", commits_real_memory)
+    yield Test("library: each call of a seat answers", answers_each_seat)
     yield Test("library: threads over one pool", serves_threads)
     yield Test("library: threads under ThreadSanitizer", lambda bench: sanitized(bench, "thread"))
     yield Test("library: threads under AddressSanitizer", lambda bench: sanitized(bench, "address"))

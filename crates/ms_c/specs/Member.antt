@@ -263,3 +263,40 @@ pub record TellsPool (member : MemberState) (first count : ℕ) (bits : List Boo
   pub held : HeldState
   pub has : member.held ≡ Some held
   pub bits_are : bits ≡ map (granule_at held.pool first) (range_with_len 0 count)
+
+-- What is told of a loader's answer over the pool.
+abbrev pub block_told : Result Block Refusal → Reply
+block_told (Ok made) = At made.start
+block_told (Err refusal) = Refused refusal
+
+-- A loader is asked for a block over the pool that a seat has.
+pub record AsksOver (space : Space) (block words : ℕ) (held : HeldState) (loader : LoaderView) (reply : Reply)
+    (new : Option LoaderView) (now : HeldState) : Type 0 where
+  pub is : LoaderView
+  pub answer : Result Block Refusal
+  pub new_is : new ≡ Some is
+  pub reply_is : reply ≡ block_told answer
+  pub unchanged : OnErr answer (is ≡ loader)
+  pub allocates : AllocatesBlock GrewHeld TookHeld held.seat.knows.limits.policy space loader block words held answer
+      is now
+
+-- So it is of the loader that is there.
+abbrev pub AnswersOver : Space → ℕ → ℕ → HeldState → Option LoaderView → Reply → Option LoaderView → HeldState → Type 0
+AnswersOver space block words held None reply new now = (reply ≡ Refused NoLoader) × (new ≡ None) × (now ≡ held)
+AnswersOver space block words held (Some loader) reply new now = AsksOver space block words held loader reply new now
+
+-- And without the pool.
+abbrev pub AnswersWithout : Space → ℕ → ℕ → Option LoaderView → Option Reply → Option LoaderView → Type 0
+AnswersWithout space block words None reply new = (reply ≡ Some (Refused NoLoader)) × (new ≡ None)
+AnswersWithout space block words (Some loader) reply new =
+    (is : LoaderView) × (new ≡ Some is) × AnswersAlone space block words loader reply is
+
+-- A block of the loader that is there is freed, or is not.
+abbrev pub AnswersFreeing : ℕ → LoaderView → Reply → LoaderView → Type 0
+AnswersFreeing block old Done new = FreesBlock old.state block new.state × (new ≡ with_state old new.state)
+AnswersFreeing block old (Refused refusal) new = LacksName old.state block refusal × (new ≡ old)
+AnswersFreeing block old _ new = ⊥
+
+abbrev pub FreesIn : ℕ → Option LoaderView → Reply → Option LoaderView → Type 0
+FreesIn block None reply new = (reply ≡ Refused NoLoader) × (new ≡ None)
+FreesIn block (Some loader) reply new = (is : LoaderView) × (new ≡ Some is) × AnswersFreeing block loader reply is

@@ -90,6 +90,20 @@ impl Member {
         }
     }
 
+    /// Gives the seat back of a member that doesn't have the pool, and drops all else.
+    fn into_seat(self) -> Option<PoolSeat>
+        ensures { result ≡ self.seat }
+    {
+        let Member {
+            shared: _,
+            seat,
+            held: _,
+            spare: _,
+            loader: _,
+        } = self;
+        seat
+    }
+
     /// Takes the pool, by one try, and returns whether the seat has it then. Where another seat has
     /// the pool nothing changes. Takes no memory, and does not wait.
     pub fn hold(&mut self) -> bool

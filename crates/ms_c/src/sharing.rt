@@ -15,11 +15,11 @@ use std::alloc::Global;
 /// How many seats a pool has at most.
 const MOST_SEATS: u32 = 65_536;
 
-/// Makes a pool with no loader under the settings that the options name, of so many seats, 1 to
-/// 65536, and puts the first into an empty one: it has all others to spare. Answers IN_USE exactly
-/// where `out` has a seat already, in an empty one BAD_SETTINGS exactly where an option or the
-/// number of seats is out of its range, and else DONE or OUT_OF_MEMORY; all but DONE leave `out` as
-/// it was. Takes memory.
+/// Makes a pool with no loader, under the settings that the options name, for so many seats, 1 to
+/// 65536. `out` gets the first seat, which has all others to spare. Answers IN_USE exactly where
+/// `out` has a seat already, where it has none BAD_SETTINGS exactly where an option or the number of
+/// seats is out of its range, and else DONE or OUT_OF_MEMORY; all but DONE leave `out` as it was.
+/// Takes memory.
 #[unsafe(no_mangle)]
 pub extern "C" fn nizgrabul_share(
     alloc: Global,
@@ -60,10 +60,9 @@ pub extern "C" fn nizgrabul_share(
     }
 }
 
-/// Puts one of the seats that a seat has to spare into an empty one, for a loader of its own and
-/// any thread. Answers NO_SEAT exactly where `seat` has none; IN_USE where `out` has one already;
-/// NO_SPARE where none is to spare; and else DONE or OUT_OF_MEMORY; all but DONE change nothing.
-/// Takes memory.
+/// Gives `out` one of the seats that `seat` has to spare, for a loader of its own and for any thread.
+/// Answers NO_SEAT exactly where `seat` has none, IN_USE where `out` has one already, NO_SPARE where
+/// none is to spare, and else DONE or OUT_OF_MEMORY; all but DONE change nothing. Takes memory.
 #[unsafe(no_mangle)]
 pub extern "C" fn nizgrabul_seat_split(alloc: Global, seat: &mut Seat, out: &mut Seat) -> u32
     ensures split { result ≡ DONE
@@ -96,9 +95,9 @@ pub extern "C" fn nizgrabul_seat_split(alloc: Global, seat: &mut Seat, out: &mut
     }
 }
 
-/// Ends a seat, if there is one: where it has the pool it gives it back. The last seat ends the
-/// pool. What its loader had, and seats to spare, are lost for the others. `seat` is empty then,
-/// and may be used anew. Takes no memory.
+/// Ends a seat, if there is one, and gives the pool back where the seat has it; the last seat of a
+/// pool ends the pool. Chunks of a loader that was not unloaded stay with the pool, and so do seats
+/// to spare. The seat is empty then, and may be used anew. Takes no memory.
 #[unsafe(no_mangle)]
 pub extern "C" fn nizgrabul_seat_end(alloc: Global, seat: &mut Seat)
     ensures { seat.new.slot.held ≡ None }

@@ -7,7 +7,8 @@ ghost use Rattle.ms_base.specs.declared.kind.Space.TheVariants.{NonClass, Class}
 ghost use Rattle.ms_loaders.specs.Loader.{account_in, AllocatesBlock};
 ghost use Rattle.ms_shared.specs.LockCalls.{TookHeld, GrewHeld, OpenedBothHeld, ClosedBothHeld};
 ghost use Rattle.ms_c.specs.Member.{AnswersNew, AnswersUnload, AnswersAlloc, AnswersFree, ServesLoader};
-ghost use Rattle.ms_c.specs.Member.{OpensLoader, AnswersAlone, alone_told};
+ghost use Rattle.ms_c.specs.Member.{OpensLoader, AnswersAlone, AnswersWithout, AnswersOver, FreesIn};
+ghost use Rattle.ms_c.specs.Member.{ServesIt, alone_told, block_told};
 
 use super::Member;
 use super::place::NoChunks;
@@ -65,18 +66,12 @@ impl Member {
     pub fn allocate(&mut self, space: Space, block: u32, words: u64) -> Option<Reply>
         ensures { AnswersAlloc space block words self.old result self.new }
     {
-        let Some(loader) = &mut self.loader else {
-            return Some(Reply::Refused(Refusal::NoLoader));
-        };
         let Some(held) = self.held.take() else {
-            return allocate_alone(loader, space, block, words);
+            return allocate_alone(&mut self.loader, space, block, words);
         };
-        let (held, answer) = allocate_over(&self.shared, held, loader, space, block, words);
+        let (held, reply) = allocate_over(&self.shared, held, &mut self.loader, space, block, words);
         self.held = Some(held);
-        match answer {
-            Ok(made) => Some(Reply::At(made.start)),
-            Err(refusal) => Some(Reply::Refused(refusal)),
-        }
+        Some(reply)
     }
 
     /// Frees a block, with or without the pool. Refused with `NoLoader`, and with `NoBlock` where the
@@ -84,13 +79,7 @@ impl Member {
     pub fn free(&mut self, block: u32) -> Option<Reply>
         ensures { AnswersFree block self.old result self.new }
     {
-        match &mut self.loader {
-            None => Some(Reply::Refused(Refusal::NoLoader)),
-            Some(loader) => match loader.free(block) {
-                Ok(()) => Some(Reply::Ok),
-                Err(refusal) => Some(Reply::Refused(refusal)),
-            },
-        }
+        Some(free_in(&mut self.loader, block))
     }
 }
 
@@ -130,8 +119,32 @@ fn close_over(shared: &SharedPool, held: HeldSeat, loader: Loader) -> HeldSeat
     pool.pause()
 }
 
-/// Allocates a block over the pool that a seat has.
+/// Allocates a block for a loader, where there is one, over the pool that a seat has.
 fn allocate_over(
+    shared: &SharedPool,
+    held: HeldSeat,
+    loader: &mut Option<Loader>,
+    space: Space,
+    block: u32,
+    words: u64,
+) -> (HeldSeat, Reply)
+    requires own { held.seat.id ≡ shared.now.id }
+    requires serves { ServesIt held.seat.knows loader.old }
+    ensures own { result.0.seat.id ≡ held.seat.id }
+    ensures serves { ServesIt result.0.seat.knows loader.new }
+    ensures answers { AnswersOver space block words held loader.old result.1 loader.new result.0 }
+{
+    match loader {
+        None => (held, Reply::Refused(Refusal::NoLoader)),
+        Some(loader) => {
+            let (held, answer) = ask_pool(shared, held, loader, space, block, words);
+            (held, tell_block(answer))
+        }
+    }
+}
+
+/// Allocates a block of a loader over the pool that a seat has.
+fn ask_pool(
     shared: &SharedPool,
     held: HeldSeat,
     loader: &mut Loader,
@@ -152,16 +165,40 @@ fn allocate_over(
     (pool.pause(), answer)
 }
 
-/// Allocates a block without the pool, where the loader has a place for it; answers none where it
-/// has none.
-fn allocate_alone(loader: &mut Loader, space: Space, block: u32, words: u64) -> Option<Reply>
+/// Tells what a loader answers.
+fn tell_block(answer: Result<Block, Refusal>) -> Reply
+    ensures { result ≡ block_told answer }
+{
+    match answer {
+        Ok(made) => Reply::At(made.start),
+        Err(refusal) => Reply::Refused(refusal),
+    }
+}
+
+/// Allocates a block for a loader, where there is one, without the pool.
+fn allocate_alone(
+    loader: &mut Option<Loader>,
+    space: Space,
+    block: u32,
+    words: u64,
+) -> Option<Reply>
+    ensures { AnswersWithout space block words loader.old result loader.new }
+{
+    match loader {
+        None => Some(Reply::Refused(Refusal::NoLoader)),
+        Some(loader) => place(loader, space, block, words),
+    }
+}
+
+/// Places a block where the loader has a place for it; answers none where it has none.
+fn place(loader: &mut Loader, space: Space, block: u32, words: u64) -> Option<Reply>
     ensures { AnswersAlone space block words loader.old result loader.new }
 {
     let mut source = NoChunks::one();
     tell_alone(loader.allocate(&mut source, space, block, words))
 }
 
-/// Tells a loader's answer without the pool: none where a chunk was asked for.
+/// Tells what a loader answers without the pool: none where it asked for a chunk.
 fn tell_alone(answer: Result<Block, Refusal>) -> Option<Reply>
     ensures { result ≡ alone_told answer }
 {
@@ -169,5 +206,18 @@ fn tell_alone(answer: Result<Block, Refusal>) -> Option<Reply>
         Ok(made) => Some(Reply::At(made.start)),
         Err(Refusal::ReserveLimit { nodes: _, limit: _ }) => None,
         Err(refusal) => Some(Reply::Refused(refusal)),
+    }
+}
+
+/// Frees a block of a loader, where there is one.
+fn free_in(loader: &mut Option<Loader>, block: u32) -> Reply
+    ensures { FreesIn block loader.old result loader.new }
+{
+    match loader {
+        None => Reply::Refused(Refusal::NoLoader),
+        Some(loader) => match loader.free(block) {
+            Ok(()) => Reply::Ok,
+            Err(refusal) => Reply::Refused(refusal),
+        },
     }
 }

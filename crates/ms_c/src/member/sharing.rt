@@ -77,14 +77,7 @@ fn give_back(spare: &mut Vec<PoolSeat>, member: Member)
     requires { vec_len spare.old < vec_capacity spare.old }
     ensures { IfSome member.seat (λ seat. spare.new.items ≡ spare.old.items ++ seat ∷ []) }
 {
-    let Member {
-        shared: _,
-        seat,
-        held: _,
-        spare: _,
-        loader: _,
-    } = member;
-    if let Some(seat) = seat {
+    if let Some(seat) = member.into_seat() {
         spare.push_reserved(seat);
     }
 }

@@ -15,7 +15,6 @@ use Rattle.std.specs.Prelude.{Some, None}
 use Rattle.std.specs.Global.{Global}
 use Rattle.std_alloc.proofs.SendSync.{quiet, lies}
 use Rattle.std_alloc.proofs.arc.Arc.TheSendSync as arc
-use Rattle.std_heap.proofs.Global.TheSendSync as handle
 use Rattle.ms_pool.proofs.account.Account.TheSendSync as account
 use Rattle.ms_arena.proofs.words.Words.TheSendSync as words
 use Rattle.ms_loaders.proofs.naming.Names.TheSendSync as names
@@ -58,7 +57,6 @@ shared_send =
       table.the_send,
       lease.the_send,
       global.the_send,
-      global.the_sync,
     ) depth 60 fits 30000
 
 shared_sync : IsSync shared.the_row
@@ -76,19 +74,8 @@ shared_sync =
 
 member_send : IsSend member.the_row
 member_send =
-    search (
-      arc.the_send,
-      shared_send,
-      shared_sync,
-      seat_send,
-      held_send,
-      loader_send,
-      sendable,
-      crosses,
-      option.the_send,
-      global.the_send,
-      global.the_sync,
-    ) depth 60 fits 30000
+    search (arc.the_send, shared_send, shared_sync, seat_send, held_send, loader_send, sendable, crosses)
+    depth 60 fits 30000
 
 held_goes : (alloc : Global) (at : Ptr) (held : Seated) → Keyless (seated_by alloc at held)
 held_goes alloc at None = tt
@@ -97,6 +84,6 @@ held_goes alloc at (Some value) =
 
 pub send : IsSend the_row
 send =
-    let all : AllSend (fields the_type) = (search sendable, (handle.the_field_send, tt)) in
+    let all : AllSend (fields the_type) = (search sendable, (global.the_field_send, tt)) in
     owning_send the_type all (λ d. held_goes d.alloc d.at d.held)
     (λ k. quiet (to the_type) (exits_of k (fields the_type)) ((struct_send (shape the_type) all).leaving k))
