@@ -27,9 +27,8 @@ use Rattle.ms_loaders.proofs.steps.ServedLemmas.{KeepsOther, same_account, block
 use Rattle.ms_loaders.proofs.steps.CallLemmas.{free_keeps}
 use Rattle.ms_loaders.proofs.steps.OutcomeLemmas.{placed_chunks}
 use Rattle.ms_shared.specs.declared.lock_rule.SeatView.{SeatView}
-use Rattle.ms_shared.specs.SeatView.{SeatState, HeldState, ServesBy, OverLock, opened_by, spare_seats, new_seats}
+use Rattle.ms_shared.specs.SeatView.{LockState, SeatState, HeldState, ServesBy, OverLock, opened_by, spare_seats, new_seats}
 use Rattle.ms_shared.specs.LockCalls.{TookHeld, GrewHeld, OpenedBothOver}
-use Rattle.atomic_table.specs.Seated.{TableId}
 use Rattle.ms_c.specs.Member.{ServesLoader, PlacesIn}
 
 -- The seat serves a loader whose accounts are the same.
@@ -155,14 +154,14 @@ block_id space policy was is name words old new answer (inr asks) =
     arena_id policy asks.was words old answer asks.is new asks.allocates
 
 -- The seats of a new lock are its own.
-spare_own : (id : TableId) (limits : Limits) (first n : ℕ)
-    → AllByRecursion (λ (s : SeatState). s.id ≡ id) (spare_seats id limits first n)
-spare_own id limits first zero = tt
-spare_own id limits first (suc n) = (refl, spare_own id limits (suc first) n)
+spare_own : (lock : LockState) (limits : Limits) (first n : ℕ)
+    → AllByRecursion (λ (s : SeatState). s.id ≡ lock.id) (spare_seats lock.id limits first n)
+spare_own lock limits first zero = tt
+spare_own lock limits first (suc n) = (refl, spare_own lock limits (suc first) n)
 
-pub all_own : (id : TableId) (made : ℕ) (pool : Ledger) (seats : List SeatState) → seats ≡ new_seats id made pool
-    → All (λ (s : SeatState). s.id ≡ id) seats
-all_own id made pool seats is =
-    subst (All (λ (s : SeatState). s.id ≡ id)) (sym is)
-    (All-from_recursion (λ (s : SeatState). s.id ≡ id) (new_seats id made pool)
-    (refl, spare_own id pool.limits 1 _))
+pub all_own : (lock : LockState) (made : ℕ) (pool : Ledger) (seats : List SeatState)
+    → seats ≡ new_seats lock.id made pool → All (λ (s : SeatState). s.id ≡ lock.id) seats
+all_own lock made pool seats is =
+    subst (All (λ (s : SeatState). s.id ≡ lock.id)) (sym is)
+    (All-from_recursion (λ (s : SeatState). s.id ≡ lock.id) (new_seats lock.id made pool)
+    (refl, spare_own lock pool.limits 1 _))

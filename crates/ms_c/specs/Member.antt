@@ -27,7 +27,6 @@ use Rattle.ms_loaders.specs.Loader.{FreesBlock, LacksName}
 use Rattle.ms_shared.specs.declared.lock_rule.SeatView.{SeatView}
 use Rattle.ms_shared.specs.SeatView.{LockState, SeatState, HeldState, ServesBy, opened_by, new_seats}
 use Rattle.ms_shared.specs.LockCalls.{TookHeld, GrewHeld, OpenedBothHeld, ClosedBothHeld}
-use Rattle.atomic_table.specs.Seated.{TableId}
 
 -- The seat, alone or with the pool that it has; seats to spare; and the loader, if there is one.
 pub record MemberState : Type 0 where
@@ -58,10 +57,10 @@ free_seat seat spare = record { seat = Some seat; held = None; spare = spare; lo
 
 -- The first seat of a new pool has all others to spare.
 pub record IsFirst (limits : Limits) (count : ℕ) (now : MemberState) : Type 0 where
-  pub id : TableId
+  pub lock : LockState
   pub seat : SeatState
   pub spare : List SeatState
-  pub all : spare ++ seat ∷ [] ≡ new_seats id count (empty_ledger limits)
+  pub all : spare ++ seat ∷ [] ≡ new_seats lock.id count (empty_ledger limits)
   pub now_is : now ≡ free_seat seat spare
 
 -- One of the seats to spare becomes a member of its own.
