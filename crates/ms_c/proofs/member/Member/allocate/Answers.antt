@@ -1,5 +1,5 @@
-use Rattle.std.proofs.Common.{sym, refl}
-use Rattle.ms_c.specs.Member.{MemberState}
+use Rattle.std.proofs.Common.{sym, refl, subst, Some}
+use Rattle.ms_c.specs.Member.{MemberState, AnswersAlloc}
 use Rattle.ms_c.proofs.SeatedLemmas.{over_answers}
 use Rattle.ms_c.proofs.member.Member.allocate.Goals as goal
 
@@ -12,7 +12,14 @@ returns c =
       spare = c.self.inside.spare.items;
       loader = c.self.inside.loader;
     } in
-    rw (← c.self.view_is)
-    (over_answers c.args.space c.args.block c.args.words old _ c.in-Some.held c.allocate_over-held.result.0
+    let new : MemberState = record {
+      seat = c.self.inside.seat;
+      held = Some c.allocate_over-held.result.0;
+      spare = c.self.inside.spare.items;
+      loader = c.allocate_over-held.new.loader;
+    } in
+    subst (λ (m : MemberState). AnswersAlloc c.args.space c.args.block c.args.words m
+    (Some c.allocate_over-held.result.1) new) c.self.view_is
+    (over_answers c.args.space c.args.block c.args.words old new c.in-Some.held c.allocate_over-held.result.0
     c.allocate_over-held.result.1 c.allocate_over-held.new.loader (sym c.in-Some.ensures.value) refl
     c.allocate_over-held.ensures.answers)
