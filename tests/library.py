@@ -127,7 +127,7 @@ def expect_threads_served(words, threads=4):
 def serves_threads(bench):
     """Eight threads have 64 loaders that come, allocate, go and move, over one pool."""
     program = linked(bench, EXAMPLES, "threads", "-pthread")
-    expect_threads_served([program, "8", "20000"], 8)
+    expect_threads_served([program, "8", "100000"], 8)
 
 
 def sanitized(bench, which):
@@ -137,7 +137,7 @@ def sanitized(bench, which):
     if subprocess.run(probe, input=b"int main(void) { return 0; }", capture_output=True).returncode != 0:
         raise Skipped(f"a C compiler with {flag}")
     program = linked(bench, EXAMPLES, "threads", "-pthread", "-g", flag)
-    expect_threads_served([program, "8", "3000"], 8)
+    expect_threads_served([program, "8", "10000"], 8)
 
 
 def gives_all_memory_back(bench):
@@ -232,8 +232,8 @@ def tests():
     yield Test("library: real memory follows the account", commits_real_memory)
     yield Test("library: each call of a seat answers", answers_each_seat)
     yield Test("library: threads over one pool", serves_threads)
-    yield Test("library: threads under ThreadSanitizer", lambda bench: sanitized(bench, "thread"))
-    yield Test("library: threads under AddressSanitizer", lambda bench: sanitized(bench, "address"))
+    yield Test("library: threads under ThreadSanitizer", sanitized, ("thread",))
+    yield Test("library: threads under AddressSanitizer", sanitized, ("address",))
     yield Test("library: each growth is refused in turn", gives_all_memory_back)
     yield Test("library: whose each word is, of 1,000 loaders", tells_whose_each_word_is)
     yield Test("library: the header is C++ too", fits_a_cpp_program)

@@ -42,7 +42,8 @@
  * - A handle is filled with zeros before its first use. After that only these calls read or write it; it
  *   may be moved, but of a handle and its copy only one is used again. It is deleted, or its memory is lost.
  * - One call at a time has a handle. Between calls it may move to another thread, under a lock of the
- *   program's own. Two handles serve two threads at once.
+ *   program's own. Two handles serve two threads at once, each over a pool of its own; nizgrabul_share, below,
+ *   has one pool serve all threads.
  * - Pointers are not null, are aligned, and lead to room for their type that nobody else touches during
  *   the call; `options` and `out` do not overlap the handle.
  * - `malloc`, `realloc` and `free` are of one allocator, and align to 16. No call comes from a signal
@@ -288,19 +289,18 @@ uint32_t nizgrabul_totals(nizgrabul_handle *handle, nizgrabul_sums_of_all *out);
  * loader. */
 uint32_t nizgrabul_loader_totals(nizgrabul_handle *handle, uint16_t loader, nizgrabul_sums_of_loader *out);
 
-/* One pool for many threads. Each class loader has a seat of its own, and is on the thread that has the seat;
- * it moves to another thread by moving the seat there. A thread asks its loaders for blocks without a lock,
- * until one needs a further chunk: for that its seat takes the pool.
+/* One pool for many threads. Each class loader has a seat of its own, and is on the thread that has the seat:
+ * it moves to another thread where the program hands the seat there. Blocks come of what a loader has, with no
+ * lock, until it needs more of the pool: for that its seat takes the pool, and no other seat has it meanwhile.
  *
  *     nizgrabul_seat first = {0}, second = {0};
- *     nizgrabul_share(&options, 2, &first);                  two seats
- *     nizgrabul_seat_split(&first, &second);                 one for each loader
- *     ..                                                     then on a thread that has `first`:
- *     nizgrabul_seat_wait(&first);                           the pool is this thread's
+ *     nizgrabul_share(&options, 2, &first);                  a pool with two seats
+ *     nizgrabul_seat_split(&first, &second);                 one for each loader; on the thread that has first:
+ *     nizgrabul_seat_wait(&first);                           this thread has the pool
  *     nizgrabul_seat_new_loader(&first, NIZGRABUL_STANDARD);
  *     nizgrabul_seat_let_go(&first);
  *     nizgrabul_answer block = nizgrabul_seat_alloc(&first, 7, 4000);
- *     if (block.status == NIZGRABUL_NOT_HELD) {              the loader needs a further chunk
+ *     if (block.status == NIZGRABUL_NOT_HELD) {              the loader needs more than it has
  *         nizgrabul_seat_wait(&first);
  *         block = nizgrabul_seat_alloc(&first, 7, 4000);
  *         ..                                                 commit what nizgrabul_seat_granules returns anew
@@ -308,30 +308,32 @@ uint32_t nizgrabul_loader_totals(nizgrabul_handle *handle, uint16_t loader, nizg
  *     }
  *
  * What a program owes here, since nothing checks it:
- * - What is owed of a handle is owed of a seat: zeros first, one call at a time, no copy. A seat goes to
- *   another thread by a lock, a thread's start or join, or a sequentially consistent atomic. `seat` and `out`
- *   are two.
- * - Memory is committed and given back while the seat has the pool. Afterwards another seat may get the same
- *   granule: it would become committed anew before it was given back.
- * - A thread has the pool by one seat at a time, and not for long: all other seats are answered BUSY.
- * - No call that a seat makes waits. nizgrabul_seat_wait asks until the seat has the pool. A program puts its own
- *   way to wait in its place by defining NIZGRABUL_WAIT(tries) before it includes this header.
- * Each other call here may be made while another thread has the pool, and changes nothing of the others. */
+ * - What is owed of a handle is owed of a seat: it begins as zeros, one call at a time has it, and of a seat and
+ *   its copy only one is used again. It goes to another thread by a lock, by the start or the end of a thread,
+ *   or by a sequentially consistent atomic. `seat` and `out` are two.
+ * - Memory is committed, and given back, while the seat has the pool: once it let the pool go, another seat may
+ *   get the same granules, and would have them committed before they are given back.
+ * - A thread has the pool by one seat at a time, and not for long: meanwhile every other seat is answered BUSY.
+ *   To ask for it by a second seat is to ask forever.
+ * No call of a seat waits for another thread. nizgrabul_seat_wait, at the end of this header, asks until the seat
+ * has the pool; NIZGRABUL_WAIT(tries), defined before this header, puts a program's own way to wait in its place.
+ * A pool ends with its last seat, and has at most 65536 of them; a seat whose loader was unloaded serves the next
+ * one. There is no move of a loader between two seats: the seat moves. */
 
-/* Makes a pool with no loader under the settings that the options name, of so many seats, 1 to 65536, and
- * puts the first into an empty one: it has all others to spare. Answers IN_USE exactly where `out` has a
- * seat already, in an empty one BAD_SETTINGS exactly where an option or the number of seats is out of its
+/* Makes a pool with no loader, under the settings that the options name, for so many seats, 1 to 65536.
+ * `out` gets the first seat, which has all others to spare. Answers IN_USE exactly where `out` has a seat
+ * already, where it has none BAD_SETTINGS exactly where an option or the number of seats is out of its
  * range, and else DONE or OUT_OF_MEMORY; all but DONE leave `out` as it was. Takes memory. */
 uint32_t nizgrabul_share(const nizgrabul_options *options, uint32_t seats, nizgrabul_seat *out);
 
-/* Puts one of the seats that a seat has to spare into an empty one, for a loader of its own and any thread.
- * Answers NO_SEAT exactly where `seat` has none; IN_USE where `out` has one already; NO_SPARE where none is
- * to spare; and else DONE or OUT_OF_MEMORY; all but DONE change nothing. Takes memory. */
+/* Gives `out` one of the seats that `seat` has to spare, for a loader of its own and for any thread. Answers
+ * NO_SEAT exactly where `seat` has none, IN_USE where `out` has one already, NO_SPARE where none is to
+ * spare, and else DONE or OUT_OF_MEMORY; all but DONE change nothing. Takes memory. */
 uint32_t nizgrabul_seat_split(nizgrabul_seat *seat, nizgrabul_seat *out);
 
-/* Ends a seat, if there is one: where it has the pool it gives it back. The last seat ends the pool. What
- * its loader had, and seats to spare, are lost for the others. `seat` is empty then, and may be used anew.
- * Takes no memory. */
+/* Ends a seat, if there is one, and gives the pool back where the seat has it; the last seat of a pool ends
+ * the pool. Chunks of a loader that was not unloaded stay with the pool, and so do seats to spare. The seat
+ * is empty then, and may be used anew. Takes no memory. */
 void nizgrabul_seat_end(nizgrabul_seat *seat);
 
 /* Takes the pool for a seat, by one try, and keeps it until nizgrabul_seat_let_go. Answers BUSY where
@@ -356,10 +358,10 @@ nizgrabul_answer nizgrabul_seat_unload(nizgrabul_seat *seat);
 
 /* Allocates a block of so many words, 1 to 524288, outside the class space, under a number that the seat's
  * loader has no block of; `value` is the word where it starts. One word makes a block of two. Where the seat
- * doesn't have the pool, the block comes of the chunks that the loader has, and NOT_HELD answers where it
- * needs a further one or more of one; nothing becomes committed then. Refused, in this order, with NO_SEAT,
- * NO_LOADER, BLOCK_EXISTS, ZERO_WORDS, TOO_LARGE, and with NOT_HELD, or with RESERVE_LIMIT, COMMIT_LIMIT or
- * OUT_OF_MEMORY. Takes memory. */
+ * has the pool, granules may become committed. Where it doesn't, no lock is tried: the block comes of the
+ * committed words that the loader has, and NOT_HELD answers where these don't serve. Refused, in this order,
+ * with NO_SEAT, NO_LOADER, BLOCK_EXISTS, ZERO_WORDS, TOO_LARGE, and with NOT_HELD, RESERVE_LIMIT,
+ * COMMIT_LIMIT or OUT_OF_MEMORY. Takes memory. */
 nizgrabul_answer nizgrabul_seat_alloc(nizgrabul_seat *seat, uint32_t block, uint64_t words);
 
 /* Allocates a block in the class space, as nizgrabul_seat_alloc does; a loader's blocks of both spaces share

@@ -3,14 +3,19 @@
  * word of each block is written and read back. Granules become accessible, and cease to be, just while the
  * thread has the pool. In the end the program's own account of who holds what is compared with the library's.
  *
- *     threads [threads, 4] [rounds of each, 400] */
+ *     threads [threads, 4] [turns of all loaders, 20000] */
 #define _DEFAULT_SOURCE
 #include <inttypes.h>
 #include <pthread.h>
+#include <sched.h>
+#include <stdatomic.h>
 #include <stdio.h>
 #include <stdlib.h>
 #include <sys/mman.h>
 
+/* The program's own way to wait for the pool, which counts. */
+static atomic_ulong waits;
+#define NIZGRABUL_WAIT(tries) (atomic_fetch_add(&waits, 1), sched_yield())
 #include "nizgrabul.h"
 
 /* The words of all nodes up to the end of the class space's first, in granules of 8192 words; and how many
@@ -47,7 +52,8 @@ static uint64_t *base;
 static bool mapped[GRANULES]; /* by whoever has the pool */
 static struct loader loaders[LOADERS];
 static struct mailbox mailboxes[MOST_THREADS];
-static int threads = 4, rounds = 400;
+static int threads = 4;
+static atomic_long left = 20000; /* turns */
 
 static void ends(const char *what) {
     fprintf(stderr, "%s\n", what);
@@ -168,9 +174,13 @@ static void take_turn(struct loader *loader, uint32_t *state) {
 static void *work(void *number) {
     int thread = (int)(intptr_t)number;
     uint32_t state = 1000 + thread;
-    for (int round = 0; round < rounds; round++) {
+    while (atomic_load(&left) > 0) {
         struct loader *loader = receive(thread);
-        if (!loader) continue;
+        if (!loader) {
+            sched_yield();
+            continue;
+        }
+        atomic_fetch_sub(&left, 1);
         take_turn(loader, &state);
         send(loader, next(&state) % threads);
     }
@@ -217,7 +227,7 @@ static void share(void) {
 int main(int count, char **words) {
     pthread_t handles[MOST_THREADS];
     if (count > 1) threads = atoi(words[1]);
-    if (count > 2) rounds = atoi(words[2]);
+    if (count > 2) atomic_store(&left, atol(words[2]));
     if (threads < 1 || threads > MOST_THREADS) ends("threads: 1 to 64");
     base = mmap(NULL, (size_t)WORDS * 8, PROT_NONE, MAP_PRIVATE | MAP_ANONYMOUS | MAP_NORESERVE, -1, 0);
     if (base == MAP_FAILED) ends("mmap");
@@ -229,7 +239,8 @@ int main(int count, char **words) {
     for (int k = 0; k < threads; k++) pthread_join(handles[k], NULL);
     HAS_POOL();
     printf("%d threads, %d loaders: each word is as it was written\n", threads, LOADERS);
-    fprintf(stderr, "%" PRIu64 " words of blocks in the end\n", compare());
+    fprintf(stderr, "%" PRIu64 " words of blocks in the end; %lu tries found the pool with another thread\n", compare(),
+            atomic_load(&waits));
     for (int k = 0; k < LOADERS; k++)
         if (loaders[k].lives) go(&loaders[k]);
     for (int k = 0; k < GRANULES; k++)

@@ -56,10 +56,10 @@ pub extern "C" fn nizgrabul_seat_unload(alloc: Global, seat: &mut Seat) -> Answe
 
 /// Allocates a block of so many words, 1 to 524288, outside the class space, under a number that
 /// the seat's loader has no block of; `value` is the word where it starts. One word makes a block
-/// of two. Where the seat doesn't have the pool, the block comes of the chunks that the loader has,
-/// and NOT_HELD answers where it needs a further one or more of one; nothing becomes committed
-/// then. Refused, in this order, with NO_SEAT, NO_LOADER, BLOCK_EXISTS, ZERO_WORDS, TOO_LARGE, and
-/// with NOT_HELD, or with RESERVE_LIMIT, COMMIT_LIMIT or OUT_OF_MEMORY. Takes memory.
+/// of two. Where the seat has the pool, granules may become committed. Where it doesn't, no lock is
+/// tried: the block comes of the committed words that the loader has, and NOT_HELD answers where
+/// these don't serve. Refused, in this order, with NO_SEAT, NO_LOADER, BLOCK_EXISTS, ZERO_WORDS,
+/// TOO_LARGE, and with NOT_HELD, RESERVE_LIMIT, COMMIT_LIMIT or OUT_OF_MEMORY. Takes memory.
 #[unsafe(no_mangle)]
 pub extern "C" fn nizgrabul_seat_alloc(
     alloc: Global,

@@ -4,9 +4,7 @@ ghost use Rattle.std.specs.Prelude.{◌≡◌, ◌≢◌, ◌↔◌, ◌⊎◌, 
 ghost use Rattle.ms_c.specs.Member.{Holds, LetsGo, LacksPool};
 ghost use Rattle.ms_c.specs.Calls.{IsShared, CannotShare, SplitsOff, HasNoSpare, Becomes};
 
-use crate::answer::{
-    BAD_SETTINGS, BUSY, DONE, IN_USE, NO_SEAT, NO_SPARE, NOT_HELD, OUT_OF_MEMORY,
-};
+use crate::answer::{BAD_SETTINGS, BUSY, DONE, IN_USE, NO_SEAT, NO_SPARE, NOT_HELD, OUT_OF_MEMORY};
 use crate::member::Member;
 use crate::options::{Options, settings_of};
 use crate::seating::Seat;

@@ -69,7 +69,14 @@ impl Member {
         let Some(held) = self.held.take() else {
             return allocate_alone(&mut self.loader, space, block, words);
         };
-        let (held, reply) = allocate_over(&self.shared, held, &mut self.loader, space, block, words);
+        let (held, reply) = allocate_over(
+            &self.shared,
+            held,
+            &mut self.loader,
+            space,
+            block,
+            words,
+        );
         self.held = Some(held);
         Some(reply)
     }
