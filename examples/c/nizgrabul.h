@@ -373,9 +373,18 @@ nizgrabul_answer nizgrabul_seat_calloc(nizgrabul_seat *seat, uint32_t block, uin
  * loader has no live block of the number. Takes no memory. */
 nizgrabul_answer nizgrabul_seat_free(nizgrabul_seat *seat, uint32_t block);
 
+/* Gives the nodes of the pool that the seat has back in which no chunk is held; `value` is how many they
+ * were. Those of the class space stay. No granule of a node that went is committed; only under the policy
+ * none one can have been. Refused with NO_SEAT and NOT_HELD. Takes no memory. */
+nizgrabul_answer nizgrabul_seat_purge(nizgrabul_seat *seat);
+
 /* Returns the words in use of the seat's loader, in both spaces, and 0 where there is none. Takes no
  * memory. */
 uint64_t nizgrabul_seat_used(nizgrabul_seat *seat);
+
+/* Returns the sums of the seat's loader. Answers DONE, NO_SEAT, or NO_LOADER where there is none; all but
+ * DONE leave `out` as it was. Takes no memory; visits each chunk of the loader, and no block. */
+uint32_t nizgrabul_seat_totals(nizgrabul_seat *seat, nizgrabul_sums_of_loader *out);
 
 /* Returns of each granule from the first on, as many as `out` has places, whether it is committed in the
  * pool that the seat has. Answers DONE; NOT_HELD exactly where the seat doesn't have the pool, and NO_SEAT,

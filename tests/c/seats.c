@@ -45,6 +45,7 @@ static void run(void) {
     nizgrabul_options options = {.nodes = 1, .class_nodes = 1, .max_granules = 2, .policy = NIZGRABUL_BALANCED};
     nizgrabul_options wrong = {.nodes = 65, .class_nodes = 1, .max_granules = 2, .policy = NIZGRABUL_BALANCED};
     nizgrabul_seat a = {0}, b = {0}, c = {0};
+    nizgrabul_sums_of_loader sums = {.kind = 7};
     bool bits[2] = {true, true};
     ANSWERS(nizgrabul_share(&wrong, 2, &a), BAD_SETTINGS);
     ANSWERS(nizgrabul_share(&options, 0, &a), BAD_SETTINGS);
@@ -57,6 +58,8 @@ static void run(void) {
     ANSWERS(nizgrabul_seat_alloc(&a, 1, 1).status, NO_SEAT);
     ANSWERS(nizgrabul_seat_free(&a, 1).status, NO_SEAT);
     ANSWERS(nizgrabul_seat_granules(&a, 0, bits, 2), NO_SEAT);
+    ANSWERS(nizgrabul_seat_purge(&a).status, NO_SEAT);
+    ANSWERS(nizgrabul_seat_totals(&a, &sums), NO_SEAT);
     IS(nizgrabul_seat_used(&a) == 0);
     TAKES(nizgrabul_share(&options, 2, &a), DONE);
     ANSWERS(nizgrabul_share(&options, 2, &a), IN_USE);
@@ -71,6 +74,9 @@ static void run(void) {
     ANSWERS(nizgrabul_seat_free(&a, 1).status, NO_LOADER);
     ANSWERS(nizgrabul_seat_let_go(&a), NOT_HELD);
     ANSWERS(nizgrabul_seat_granules(&a, 0, bits, 2), NOT_HELD);
+    ANSWERS(nizgrabul_seat_purge(&a).status, NOT_HELD);
+    ANSWERS(nizgrabul_seat_totals(&a, &sums), NO_LOADER);
+    IS(sums.kind == 7);
     IS(bits[0] && bits[1]);
     ANSWERS(nizgrabul_seat_hold(&a), DONE);
     ANSWERS(nizgrabul_seat_hold(&a), DONE);
@@ -95,6 +101,9 @@ static void run(void) {
     ANSWERS(nizgrabul_seat_free(&a, 1).status, DONE);
     ANSWERS(nizgrabul_seat_free(&a, 1).status, NO_BLOCK);
     TAKES(nizgrabul_seat_alloc(&a, 5, 100).status, DONE);
+    ANSWERS(nizgrabul_seat_totals(&a, &sums), DONE);
+    IS(sums.kind == 0 && sums.space.chunks == 1 && sums.space.capacity == 512 && sums.space.used == 500);
+    IS(sums.space.live == 500 && sums.space.free_blocks == 0 && sums.class_space.chunks == 0);
     ANSWERS(nizgrabul_seat_hold(&b), DONE);
     ANSWERS(nizgrabul_seat_hold(&a), BUSY);
     ANSWERS(nizgrabul_seat_new_loader(&b, 1).status, DONE);
@@ -108,6 +117,8 @@ static void run(void) {
     IS(nizgrabul_seat_used(&a) == 0);
     ANSWERS(nizgrabul_seat_granules(&a, 0, bits, 2), DONE);
     IS(!bits[0] && !bits[1]);
+    nizgrabul_answer gone = nizgrabul_seat_purge(&a);
+    IS(gone.status == NIZGRABUL_DONE && gone.value == 1);
     nizgrabul_seat_end(&a);
     nizgrabul_seat_end(&a);
     IS(!a.live && blocks == 0);

@@ -29,7 +29,7 @@ use Rattle.ms_loaders.proofs.steps.OutcomeLemmas.{placed_chunks}
 use Rattle.ms_shared.specs.declared.lock_rule.SeatView.{SeatView}
 use Rattle.ms_shared.specs.SeatView.{LockState, SeatState, HeldState, ServesBy, OverLock, opened_by, spare_seats, new_seats}
 use Rattle.ms_shared.specs.LockCalls.{TookHeld, GrewHeld, OpenedBothOver}
-use Rattle.ms_c.specs.Member.{ServesLoader, PlacesIn}
+use Rattle.ms_c.specs.Member.{ServesLoader, ServesIt, PlacesIn}
 
 -- The seat serves a loader whose accounts are the same.
 pub serves_same : (knows : SeatView) (loader is : LoaderView) → is.owner ≡ loader.owner
@@ -108,6 +108,16 @@ serves_new kind old new accounts opened first second counts = record {
         (ap (λ (a : AccountState × AccountState). a.1) opened.new_are
         ∙ ap (λ (n : ℕ). record { owner = n; space = Class; chunks = [] })
         (sym (ap (λ (a : AccountState × AccountState). a.1.owner) opened.new_are))) second
+
+-- The pool was purged.
+pub serves_purged : (old new : SeatView) → ((account : AccountState) → ServesBy old account → ServesBy new account)
+    → opened_by new ≡ opened_by old → (loader : Option LoaderView) → ServesIt old loader → ServesIt new loader
+serves_purged old new serves counts None its = tt
+serves_purged old new serves counts (Some loader) its = record {
+  served = λ space. serves (account_in space loader) (its.served space);
+  counted = λ space. subst (λ (n : ℕ). 0 < n) (sym (ap (λ (f : Space → ℕ). f space) counts)) (its.counted space);
+  apart = its.apart;
+}
 
 -- A call on the pool leaves the seat of its lock.
 pub over_id : {event : Ledger → Ledger → Type 0} (old new : SeatState) → OverLock event old new → new.id ≡ old.id

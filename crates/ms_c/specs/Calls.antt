@@ -5,13 +5,16 @@ use Rattle.ms_base.specs.declared.kind.Kind.{Kind}
 use Rattle.ms_base.specs.declared.settings.Settings.{Settings}
 use Rattle.ms_base.specs.declared.step.Reply.{Reply}
 use Rattle.ms_base.specs.State.{limits_of}
+use Rattle.ms_loaders.specs.declared.system.sums.LoaderTotals.{LoaderTotals}
 use Rattle.ms_c.specs.declared.answer.Answer.{Answer}
+use Rattle.ms_c.specs.declared.totals.LoaderSums.{LoaderSums}
 use Rattle.ms_c.specs.declared.options.Options.{Options}
-use Rattle.ms_c.specs.Answers.{bad_kind, no_seat, told_by}
+use Rattle.ms_c.specs.Answers.{numbers, bad_kind, no_seat, not_held, told_by}
 use Rattle.ms_c.specs.Kinds.{kind_number}
+use Rattle.ms_c.specs.Sums.{loader_told}
 use Rattle.ms_c.specs.Settings.{AreSettings, AreFit}
 use Rattle.ms_c.specs.Seating.{Seated}
-use Rattle.ms_c.specs.Member.{MemberState, IsFirst, Splits, Holds, LetsGo, LacksPool, AnswersNew, TellsPool}
+use Rattle.ms_c.specs.Member.{MemberState, IsFirst, Splits, Holds, LetsGo, LacksPool, AnswersNew, TellsPool, Purges, AreItsSums}
 
 -- The member is answered so.
 pub record Called (is : MemberState → Option Reply → MemberState → Type 0) (before : MemberState) (answer : Answer)
@@ -95,3 +98,33 @@ pub record IsAlone (seat : Seated) : Type 0 where
   pub member : MemberState
   pub is : seat ≡ Some member
   pub none : member.held ≡ None
+
+-- The nodes without a chunk are given back, and counted.
+pub record GivesNodesBack (before : MemberState) (answer : Answer) (after : Seated) : Type 0 where
+  pub now : MemberState
+  pub after_is : after ≡ Some now
+  pub answer_is : answer ≡ numbers 0 answer.value 0 0
+  pub purged : Purges before answer.value now
+
+-- The seat doesn't have the pool, and nothing changes.
+pub record IsNotHeld (before : MemberState) (answer : Answer) (after : Seated) : Type 0 where
+  pub answer_is : answer ≡ not_held
+  pub after_is : after ≡ Some before
+  pub none : before.held ≡ None
+
+abbrev pub PurgesPool : Seated → Answer → Seated → Type 0
+PurgesPool None answer after = (answer ≡ no_seat) × (after ≡ None)
+PurgesPool (Some before) answer after = GivesNodesBack before answer after ⊎ IsNotHeld before answer after
+
+-- What is told are the sums of the seat's loader; and there is no loader.
+pub record TellsIts (seat : Seated) (sums : LoaderSums) : Type 0 where
+  pub member : MemberState
+  pub totals : LoaderTotals
+  pub is : seat ≡ Some member
+  pub are : AreItsSums member totals
+  pub told : sums ≡ loader_told totals
+
+pub record HasNone (seat : Seated) : Type 0 where
+  pub member : MemberState
+  pub is : seat ≡ Some member
+  pub none : member.loader ≡ None

@@ -24,9 +24,11 @@ use Rattle.ms_pool.specs.Account.{AccountState}
 use Rattle.ms_pool.specs.Ledger.{Ledger, empty_ledger}
 use Rattle.ms_loaders.specs.Loader.{LoaderView, account_in, new_loader, with_state, AllocatesBlock, NameRefused}
 use Rattle.ms_loaders.specs.Loader.{FreesBlock, LacksName}
+use Rattle.ms_loaders.specs.Sums.{AreSumsIn}
+use Rattle.ms_loaders.specs.declared.system.sums.LoaderTotals.{LoaderTotals}
 use Rattle.ms_shared.specs.declared.lock_rule.SeatView.{SeatView}
 use Rattle.ms_shared.specs.SeatView.{LockState, SeatState, HeldState, ServesBy, opened_by, new_seats}
-use Rattle.ms_shared.specs.LockCalls.{TookHeld, GrewHeld, OpenedBothHeld, ClosedBothHeld}
+use Rattle.ms_shared.specs.LockCalls.{TookHeld, GrewHeld, OpenedBothHeld, ClosedBothHeld, PurgedHeld}
 
 -- The seat, alone or with the pool that it has; seats to spare; and the loader, if there is one.
 pub record MemberState : Type 0 where
@@ -299,3 +301,15 @@ AnswersFreeing block old _ new = ⊥
 abbrev pub FreesIn : ℕ → Option LoaderView → Reply → Option LoaderView → Type 0
 FreesIn block None reply new = (reply ≡ Refused NoLoader) × (new ≡ None)
 FreesIn block (Some loader) reply new = (is : LoaderView) × (new ≡ Some is) × AnswersFreeing block loader reply is
+
+-- The nodes without a chunk are given back, so many, over the pool that the seat has.
+abbrev pub Purges : MemberState → ℕ → MemberState → Type 0
+Purges old gone new = CallsPool (λ held now. PurgedHeld held gone now) old old.loader new
+
+-- The totals are the kind of the seat's loader, and the sums over its arena in each space.
+pub record AreItsSums (member : MemberState) (totals : LoaderTotals) : Type 0 where
+  pub loader : LoaderView
+  pub found : member.loader ≡ Some loader
+  pub kind : totals.kind ≡ loader.state.kind
+  pub space : AreSumsIn NonClass totals.space loader.state
+  pub class_space : AreSumsIn Class totals.class_space loader.state

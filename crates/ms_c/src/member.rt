@@ -7,16 +7,16 @@
 //! accounts of the loader, where there is one; seats to spare are of the same lock. So a loader is
 //! where its seat is, and goes with it from thread to thread. Nothing here waits: `hold` tries
 //! once. `share` and `split` take memory, and an allocation does.
-ghost use Rattle.std.specs.Prelude.{◌≡◌, IsTrue, IsFalse, None, length, map};
+ghost use Rattle.std.specs.Prelude.{◌≡◌, IsTrue, IsFalse, IfSome, IfNone, None, length, map};
 ghost use Rattle.std.specs.List.{All, range_with_len};
 ghost use Rattle.std.specs.Arc.{arc_value};
-ghost use Rattle.ms_c.specs.Member.{free_seat, Holds, LetsGo, LacksPool, used_of_it, TellsPool, granule_at};
+ghost use Rattle.ms_c.specs.Member.{free_seat, Holds, LetsGo, LacksPool, used_of_it, TellsPool, granule_at, AreItsSums};
 
 mod loading;
 mod place;
 mod sharing;
 
-use ms_loaders::Loader;
+use ms_loaders::{Loader, LoaderTotals};
 use ms_shared::{HeldSeat, PoolSeat, SharedPool};
 use std::alloc::Global;
 use std::marker::Model;
@@ -108,7 +108,7 @@ impl Member {
     /// the pool nothing changes. Takes no memory, and does not wait.
     pub fn hold(&mut self) -> bool
         ensures held { IsTrue result → Holds self.old self.new }
-        ensures busy { IsFalse result → self.new ≡ self.old }
+        ensures busy { IsFalse result → LacksPool self.old self.new }
     {
         let Some(seat) = self.seat.take() else {
             return true;
@@ -147,6 +147,23 @@ impl Member {
             Some(loader) => loader.used(),
             None => 0,
         }
+    }
+
+    /// Returns the kind of the loader and the sums over each of its arenas, where there is one. Takes
+    /// no memory, visits each of its chunks once, and no block.
+    pub fn totals(&self) -> Option<LoaderTotals>
+        ensures sums { IfSome result (AreItsSums self.now) }
+        ensures none { IfNone result (self.now.loader ≡ None) }
+    {
+        let Some(loader) = &self.loader else {
+            return None;
+        };
+        let (space, class_space) = loader.totals();
+        Some(LoaderTotals {
+            kind: loader.kind(),
+            space,
+            class_space,
+        })
     }
 
     /// Writes of each granule from the first on whether it is committed in the pool, where the seat

@@ -1,7 +1,9 @@
 //! The exports by which a seat's loader comes, allocates, frees and goes.
+ghost use Rattle.std.specs.Prelude.{◌≡◌, IfSome, IfNone};
 ghost use Rattle.ms_base.specs.declared.kind.Space.TheVariants.{NonClass, Class};
 ghost use Rattle.ms_c.specs.Member.{AnswersNew, AnswersUnload, AnswersAlloc, AnswersFree};
-ghost use Rattle.ms_c.specs.Calls.{Calls, MakesLoaderAt};
+ghost use Rattle.ms_c.specs.Answers.{numbers, not_held};
+ghost use Rattle.ms_c.specs.Calls.{Calls, MakesLoaderAt, PurgesPool};
 
 use crate::answer::{Answer, tell_seated};
 use crate::kinds::kind_of;
@@ -114,5 +116,33 @@ pub extern "C" fn nizgrabul_seat_free(alloc: Global, seat: &mut Seat, block: u32
             seat.put(member);
             tell_seated(reply)
         }
+    }
+}
+
+/// Gives the nodes of the pool that the seat has back in which no chunk is held; `value` is how many
+/// they were. Those of the class space stay. No granule of a node that went is committed; only under
+/// the policy none one can have been. Refused with NO_SEAT and NOT_HELD. Takes no memory.
+#[unsafe(no_mangle)]
+pub extern "C" fn nizgrabul_seat_purge(alloc: Global, seat: &mut Seat) -> Answer
+    ensures { PurgesPool seat.old.slot.held result seat.new.slot.held }
+{
+    match seat.take(alloc) {
+        None => Answer::NO_SEAT,
+        Some(mut member) => {
+            let gone = member.purge();
+            seat.put(member);
+            tell_gone(gone)
+        }
+    }
+}
+
+/// Returns how many nodes went, where the seat had the pool.
+fn tell_gone(gone: Option<u32>) -> Answer
+    ensures some { IfSome gone (λ nodes. result ≡ numbers 0 nodes 0 0) }
+    ensures none { IfNone gone (result ≡ not_held) }
+{
+    match gone {
+        Some(nodes) => Answer::of(u64::from(nodes)),
+        None => Answer::NOT_HELD,
     }
 }

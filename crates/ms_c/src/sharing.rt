@@ -109,6 +109,7 @@ pub extern "C" fn nizgrabul_seat_end(alloc: Global, seat: &mut Seat)
 #[unsafe(no_mangle)]
 pub extern "C" fn nizgrabul_seat_hold(alloc: Global, seat: &mut Seat) -> u32
     ensures held { result ≡ DONE → Becomes Holds seat.old.slot.held seat.new.slot.held }
+    ensures busy { result ≡ BUSY → Becomes LacksPool seat.old.slot.held seat.new.slot.held }
     ensures refused { result ≢ DONE → seat.new.slot.held ≡ seat.old.slot.held }
     ensures no_seat { (result ≡ NO_SEAT) ↔ (seat.old.slot.held ≡ None) }
     ensures statuses { (result ≡ DONE) ⊎ (result ≡ BUSY) ⊎ (result ≡ NO_SEAT) }

@@ -2,13 +2,13 @@
 //!
 //! What needs the pool needs that the seat has it, and is else answered with none. A block that the
 //! loader places in its own chunks needs no pool.
-ghost use Rattle.std.specs.Prelude.{◌≡◌, ◌<◌, Some, None, IfOk, IfErr, OnErr};
+ghost use Rattle.std.specs.Prelude.{◌≡◌, Option, IfSome, IfNone, IfOk, IfErr, OnErr};
 ghost use Rattle.ms_base.specs.declared.kind.Space.TheVariants.{NonClass, Class};
-ghost use Rattle.ms_loaders.specs.Loader.{account_in, AllocatesBlock};
-ghost use Rattle.ms_shared.specs.LockCalls.{TookHeld, GrewHeld, OpenedBothHeld, ClosedBothHeld};
+ghost use Rattle.ms_loaders.specs.Loader.{LoaderView, account_in, AllocatesBlock};
+ghost use Rattle.ms_shared.specs.LockCalls.{TookHeld, GrewHeld, OpenedBothHeld, ClosedBothHeld, PurgedHeld};
 ghost use Rattle.ms_c.specs.Member.{AnswersNew, AnswersUnload, AnswersAlloc, AnswersFree, ServesLoader};
 ghost use Rattle.ms_c.specs.Member.{OpensLoader, AnswersAlone, AnswersWithout, AnswersOver, FreesIn};
-ghost use Rattle.ms_c.specs.Member.{ServesIt, alone_told, block_told};
+ghost use Rattle.ms_c.specs.Member.{ServesIt, LacksPool, Purges, alone_told, block_told};
 
 use super::Member;
 use super::place::NoChunks;
@@ -58,6 +58,20 @@ impl Member {
         };
         self.held = Some(close_over(&self.shared, held, loader));
         Some(Reply::Ok)
+    }
+
+    /// Gives the pool's nodes back in which no chunk is held, and returns how many; none where the
+    /// seat doesn't have the pool. Takes no memory.
+    pub fn purge(&mut self) -> Option<u32>
+        ensures purged { IfSome result (λ gone. Purges self.old gone self.new) }
+        ensures lacks { IfNone result (LacksPool self.old self.new) }
+    {
+        let Some(held) = self.held.take() else {
+            return None;
+        };
+        let (held, gone) = purge_over(&self.shared, held);
+        self.held = Some(held);
+        Some(gone)
     }
 
     /// Allocates a block of so many words in a space, under a new name: over the pool where the seat
@@ -124,6 +138,19 @@ fn close_over(shared: &SharedPool, held: HeldSeat, loader: Loader) -> HeldSeat
     let mut pool = shared.resume(held);
     pool.close_both(account, class_account);
     pool.pause()
+}
+
+/// Gives the nodes of the pool that a seat has back in which no chunk is held.
+fn purge_over(shared: &SharedPool, held: HeldSeat) -> (HeldSeat, u32)
+    requires { held.seat.id ≡ shared.now.id }
+    ensures own { result.0.seat.id ≡ held.seat.id }
+    ensures serves { (loader : Option LoaderView) → ServesIt held.seat.knows loader
+        → ServesIt result.0.seat.knows loader }
+    ensures purged { PurgedHeld held result.1 result.0 }
+{
+    let mut pool = shared.resume(held);
+    let gone = pool.purge();
+    (pool.pause(), gone)
 }
 
 /// Allocates a block for a loader, where there is one, over the pool that a seat has.

@@ -1,7 +1,5 @@
 //! A source without chunks: over it a block is placed just where the loader needs no further chunk,
 //! and no lock is tried.
-ghost use Rattle.std.specs.Prelude.{◌≡◌, Err};
-
 use ms_base::{Level, Refusal, Space, Span};
 use ms_pool::{Account, ChunkSource, PoolTotals};
 

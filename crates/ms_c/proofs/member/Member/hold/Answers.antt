@@ -1,7 +1,7 @@
-use Rattle.std.proofs.Common.{◌∙◌, sym, inr, ap, Option}
+use Rattle.std.proofs.Common.{◌∙◌, sym, inr, ap, Option, Some}
 use Rattle.std.specs.Arc.{arc_value}
 use Rattle.ms_shared.specs.SeatView.{SeatState}
-use Rattle.ms_c.proofs.SeatedLemmas.{has_pool}
+use Rattle.ms_c.proofs.SeatedLemmas.{has_pool, lacks_it}
 use Rattle.ms_c.proofs.member.Member.hold.Goals as goal
 
 -- a seat that isn't alone has the pool
@@ -15,3 +15,16 @@ returns-in_default-clause-held c = λ _. rw (← c.self.view_is) (inr (
     loader = c.self.inside.loader;
   }) (c.take.ensures.after ∙ c.in_default.ensures.value),
 ))
+
+-- a seat that is alone lacks it, and is put back
+pub returns-in-Err-clause-busy : goal.returns-in-Err-clause-busy
+returns-in-Err-clause-busy c = λ _. rw (← c.self.view_is) (
+  (lacks_it (arc_value c.self.inside.shared) c.self.inside.seat c.in-Some.seat c.self.inside.held c.self.inside.loader
+      (sym c.in-Some.ensures.value) c.self.invariant.0).alone,
+  ap (λ (s : Option SeatState). record {
+    seat = s;
+    held = c.self.inside.held;
+    spare = c.self.inside.spare.items;
+    loader = c.self.inside.loader;
+  }) (ap (λ (s : SeatState). Some s) c.in-Err.ensures.busy ∙ c.in-Some.ensures.value),
+)
