@@ -8,18 +8,17 @@ use Rattle.ms_base.specs.declared.span.Chunk.{Chunk}
 use Rattle.ms_base.specs.declared.span.Span.{Span}
 use Rattle.ms_base.specs.declared.span.Block.{Block}
 use Rattle.ms_base.specs.declared.refusal.Refusal.{Refusal}
-use Rattle.ms_base.specs.declared.refusal.Refusal.TheVariants.{ZeroWords, TooLarge, CommitLimit, ReserveLimit, NotLive}
-use Rattle.ms_base.specs.declared.refusal.Refusal.TheVariants.{OutOfRange, OutOfMemory, NoLoader, LoaderExists, NoBlock}
-use Rattle.ms_base.specs.declared.refusal.Refusal.TheVariants.{BlockExists, IdsUsedUp, Unsettled, NoRoom}
+use Rattle.ms_base.specs.declared.refusal.Refusal.TheVariants.{ZeroWords, TooLarge, ReserveLimit}
+use Rattle.ms_base.specs.declared.refusal.Refusal.TheVariants.{OutOfMemory}
 use Rattle.ms_base.specs.Live.{block_words}
 use Rattle.ms_base.specs.Names.{named}
 use Rattle.ms_base.specs.Place.{placed, current}
 use Rattle.ms_base.specs.Asks.{asks_growth}
-use Rattle.ms_base.specs.State.{ArenaState, arena_of}
+use Rattle.ms_base.specs.State.{ArenaState}
 use Rattle.ms_base.specs.Transition.{with_allocated, zeroed}
 use Rattle.ms_arena.specs.Arena.{ArenaView, PlaceRefused, IsAskable, block_at}
-use Rattle.ms_arena.specs.Alloc.{TakesNew, AfterTake, GrowsCurrent, AfterGrow, AsksChunk, FindsPlace, Allocates}
-use Rattle.ms_loaders.specs.Loader.{LoaderView, AfterAlloc, AllocatesBlock, NameRefused, with_state}
+use Rattle.ms_arena.specs.Alloc.{TakesNew, AfterTake, AfterGrow, AsksChunk, FindsPlace, Allocates}
+use Rattle.ms_loaders.specs.Loader.{LoaderView, AllocatesBlock, NameRefused, with_state}
 use Rattle.ms_c.specs.Member.{AnswersAlone, PlacesIn, takes_none, grows_none, alone_told}
 
 -- A chunk was asked for in vain.

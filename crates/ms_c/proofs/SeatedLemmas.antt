@@ -4,13 +4,12 @@ use Rattle.std.proofs.Common.{◌≡◌, ℕ, Option, Some, None, Result, Ok, Er
 use Rattle.ms_base.specs.declared.kind.Space.{Space}
 use Rattle.ms_base.specs.declared.span.Block.{Block}
 use Rattle.ms_base.specs.declared.refusal.Refusal.{Refusal}
-use Rattle.ms_base.specs.declared.refusal.Refusal.TheVariants.{NoLoader}
 use Rattle.ms_base.specs.declared.step.Reply.{Reply}
 use Rattle.ms_base.specs.declared.step.Reply.TheVariants.{Ok as Done, At, Value, Refused}
 use Rattle.ms_loaders.specs.Loader.{LoaderView}
 use Rattle.ms_shared.specs.declared.lock_rule.SeatView.{SeatView}
 use Rattle.ms_shared.specs.SeatView.{LockState, SeatState, HeldState}
-use Rattle.ms_c.specs.Member.{MemberState, ServesIt, IsSeated, AnswersAlloc, AnswersFree, AllocatesOver, FindsNone}
+use Rattle.ms_c.specs.Member.{MemberState, ServesIt, IsSeated, AnswersAlloc, AnswersFree, AllocatesOver}
 use Rattle.ms_c.specs.Member.{AnswersOver, AnswersWithout, AnswersAlone, AnswersFreeing, FreesIn, block_told}
 use Rattle.ms_c.proofs.ServedLemmas.{serves_placed, serves_freed}
 

@@ -1,7 +1,7 @@
 -- A seat serves a loader that was made, that allocated or that freed; and each call on the pool
 -- leaves the seat of its lock.
 use Rattle.std.proofs.Common.{◌≡◌, ◌≢◌, ◌+◌, ◌<◌, ℕ, zero, suc, Bool, true, false, Option, Some, None, Result, Ok, Err}
-use Rattle.std.proofs.Common.{List, [], ◌∷◌, refl, sym, ap, ◌∙◌, subst, inl, inr, arith}
+use Rattle.std.proofs.Common.{List, [], refl, sym, ap, ◌∙◌, subst, inl, inr, arith}
 use Rattle.std.specs.List.{All, AllByRecursion}
 use Rattle.std.proofs.lemmas.List.Elements.{All-from_recursion}
 use Rattle.ms_base.specs.declared.kind.Kind.{Kind}
@@ -21,9 +21,9 @@ use Rattle.ms_base.specs.Live.{LiveBlock}
 use Rattle.ms_pool.specs.Account.{AccountState}
 use Rattle.ms_pool.specs.Ledger.{Ledger}
 use Rattle.ms_arena.specs.Arena.{ArenaView}
-use Rattle.ms_arena.specs.Alloc.{TakesNew, GrowsCurrent, AfterGrow, AsksChunk, FindsPlace, Allocates}
+use Rattle.ms_arena.specs.Alloc.{TakesNew, AfterGrow, AsksChunk, FindsPlace, Allocates}
 use Rattle.ms_loaders.specs.Loader.{LoaderView, account_in, owner_in, new_loader, with_state, AllocatesBlock, FreesBlock}
-use Rattle.ms_loaders.proofs.steps.ServedLemmas.{KeepsOther, same_account, block_keeps}
+use Rattle.ms_loaders.proofs.steps.ServedLemmas.{KeepsOther, same_account}
 use Rattle.ms_loaders.proofs.steps.CallLemmas.{free_keeps}
 use Rattle.ms_loaders.proofs.steps.OutcomeLemmas.{placed_chunks}
 use Rattle.ms_shared.specs.declared.lock_rule.SeatView.{SeatView}

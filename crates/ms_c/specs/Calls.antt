@@ -14,7 +14,7 @@ use Rattle.ms_c.specs.Kinds.{kind_number}
 use Rattle.ms_c.specs.Sums.{loader_told}
 use Rattle.ms_c.specs.Settings.{AreSettings, AreFit}
 use Rattle.ms_c.specs.Seating.{Seated}
-use Rattle.ms_c.specs.Member.{MemberState, IsFirst, Splits, Holds, LetsGo, LacksPool, AnswersNew, TellsPool, Purges, AreItsSums}
+use Rattle.ms_c.specs.Member.{MemberState, IsFirst, Splits, AnswersNew, TellsPool, Purges, AreItsSums}
 
 -- The member is answered so.
 pub record Called (is : MemberState → Option Reply → MemberState → Type 0) (before : MemberState) (answer : Answer)

@@ -1,4 +1,4 @@
-use Rattle.std.proofs.Common.{ap, ◌∙◌, Some, refl, sym, subst}
+use Rattle.std.proofs.Common.{ap, ◌∙◌, Some, refl}
 use Rattle.ms_c.proofs.sharing.nizgrabul_share.Goals as goal
 
 -- the box has the new pool's first seat

@@ -1,5 +1,4 @@
-use Rattle.std.proofs.Common.{sym, subst, Option}
-use Rattle.ms_loaders.specs.Loader.{LoaderView}
+use Rattle.std.proofs.Common.{sym, subst}
 use Rattle.ms_shared.specs.SeatView.{HeldState}
 use Rattle.ms_c.specs.Member.{ServesIt}
 use Rattle.ms_c.proofs.ServedLemmas.{serves_purged}
