@@ -74,7 +74,7 @@ def example_tree(bench, name):
     folder, release = os.path.join(copy, "examples", "c"), os.path.join(copy, "release")
     for place in (folder, release):
         os.makedirs(place)
-    for file in ("Makefile", "nizgrabul.h", "calls.c", "runtime.c"):
+    for file in ("Makefile", "nizgrabul.h", "calls.c", "runtime.c", "threads.c"):
         shutil.copy(os.path.join(EXAMPLES, file), folder)
     with open(os.path.join(release, "libms_c.a.xz"), "wb") as file:
         file.write(printed(["xz", "-c", ARCHIVE]))
@@ -82,12 +82,13 @@ def example_tree(bench, name):
 
 
 def is_made_by_its_makefile(bench):
-    """Both programs are built by `make` alone, over the released library, in a copy whose folders lie to each other as here."""
+    """The programs are built by `make` alone, over the released library, in a copy whose folders lie to each other as here."""
     folder = example_tree(bench, "library_make")
     others = {name: word for name, word in os.environ.items() if name not in OF_MAKE}
     printed(["make", "-C", folder], env={**others, "CC": " ".join(compiler()), "CFLAGS": "-Werror"})
     expect_calls_answered(os.path.join(folder, "calls"))
     printed([os.path.join(folder, "runtime")])
+    expect_threads_served([os.path.join(folder, "threads")])
 
 
 def makefile_says_what_is_missing(bench):
@@ -107,6 +108,36 @@ def makefile_says_what_is_missing(bench):
 def commits_real_memory(bench):
     """Words of committed granules are written and read back, and words of all others fault."""
     return printed([linked(bench, EXAMPLES, "runtime")]).decode().strip().replace("\n", "; ")
+
+
+def answers_each_seat(bench):
+    """Each call of a seat and each of its statuses, worked by hand, with each growth refused in turn."""
+    return printed([linked(bench, os.path.join(FOLDER, "c"), "seats", WRAPPED)]).decode().strip()
+
+
+SERVED = "{} threads, 64 loaders: each word is as it was written\nall loaders went, and no granule is left\n"
+
+
+def expect_threads_served(words, threads=4):
+    """Fails the test where a run of the example with threads prints otherwise."""
+    found = printed(words)
+    expect(found.decode() == SERVED.format(threads), found)
+
+
+def serves_threads(bench):
+    """Eight threads have 64 loaders that come, allocate, go and move, over one pool."""
+    program = linked(bench, EXAMPLES, "threads", "-pthread")
+    expect_threads_served([program, "8", "100000"], 8)
+
+
+def sanitized(bench, which):
+    """The same under one of the compiler's sanitizers, which finds nothing."""
+    flag = f"-fsanitize={which}"
+    probe = [*compiler(), flag, "-o", bench.built(f"library_{which}"), "-x", "c", "-"]
+    if subprocess.run(probe, input=b"int main(void) { return 0; }", capture_output=True).returncode != 0:
+        raise Skipped(f"a C compiler with {flag}")
+    program = linked(bench, EXAMPLES, "threads", "-pthread", "-g", flag)
+    expect_threads_served([program, "8", "10000"], 8)
 
 
 def gives_all_memory_back(bench):
@@ -165,6 +196,8 @@ def comments_are_the_crates(bench):
     """Each call's comment in the header has the words of the export's docs."""
     docs = {}
     for name in os.listdir(SOURCES):
+        if not name.endswith(".rt"):
+            continue
         with open(os.path.join(SOURCES, name), encoding="utf-8") as file:
             docs.update({call: words(text) for text, call in EXPORT.findall(file.read())})
     comments = {call: words(text) for text, call in COMMENTED.findall(header())}
@@ -197,6 +230,10 @@ def tests():
     yield Test("library: the example's Makefile builds it", is_made_by_its_makefile)
     yield Test("library: the Makefile says what is missing", makefile_says_what_is_missing)
     yield Test("library: real memory follows the account", commits_real_memory)
+    yield Test("library: each call of a seat answers", answers_each_seat)
+    yield Test("library: threads over one pool", serves_threads)
+    yield Test("library: threads under ThreadSanitizer", sanitized, ("thread",))
+    yield Test("library: threads under AddressSanitizer", sanitized, ("address",))
     yield Test("library: each growth is refused in turn", gives_all_memory_back)
     yield Test("library: whose each word is, of 1,000 loaders", tells_whose_each_word_is)
     yield Test("library: the header is C++ too", fits_a_cpp_program)

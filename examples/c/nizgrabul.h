@@ -42,7 +42,8 @@
  * - A handle is filled with zeros before its first use. After that only these calls read or write it; it
  *   may be moved, but of a handle and its copy only one is used again. It is deleted, or its memory is lost.
  * - One call at a time has a handle. Between calls it may move to another thread, under a lock of the
- *   program's own. Two handles serve two threads at once.
+ *   program's own. Two handles serve two threads at once, each over a pool of its own; nizgrabul_share, below,
+ *   has one pool serve all threads.
  * - Pointers are not null, are aligned, and lead to room for their type that nobody else touches during
  *   the call; `options` and `out` do not overlap the handle.
  * - `malloc`, `realloc` and `free` are of one allocator, and align to 16. No call comes from a signal
@@ -52,7 +53,7 @@
 #define NIZGRABUL_H
 
 /* It rises where a call or a struct changes; nizgrabul_version tells that of the library. */
-#define NIZGRABUL_VERSION 4
+#define NIZGRABUL_VERSION 5
 
 #include <stdbool.h>
 #include <stddef.h>
@@ -84,7 +85,11 @@ enum nizgrabul_status {
     NIZGRABUL_NO_SYSTEM = 20,     /* the handle has no system */
     NIZGRABUL_IN_USE = 21,        /* the handle has a system already */
     NIZGRABUL_BAD_SETTINGS = 22,  /* an option is out of its range */
-    NIZGRABUL_BAD_KIND = 23       /* no kind of loader has the number */
+    NIZGRABUL_BAD_KIND = 23,      /* no kind of loader has the number */
+    NIZGRABUL_BUSY = 24,          /* another seat has the pool; ask again */
+    NIZGRABUL_NOT_HELD = 25,      /* the call needs the pool, which the seat does not have */
+    NIZGRABUL_NO_SEAT = 26,       /* there is no seat */
+    NIZGRABUL_NO_SPARE = 27       /* the seat has no seat to spare */
 };
 
 /* Kinds of loaders: how large the chunks are that they get, unless a block needs a larger one. */
@@ -108,7 +113,14 @@ typedef struct nizgrabul_handle {
     bool live;
 } nizgrabul_handle;
 
-/* The settings of a system. */
+/* A seat of a shared pool with its loader, or none. Filled with zeros before its first use, and then the
+ * library's alone. */
+typedef struct nizgrabul_seat {
+    void *at;
+    bool live;
+} nizgrabul_seat;
+
+/* The settings of a system, or of a shared pool. */
 typedef struct nizgrabul_options {
     uint32_t nodes;        /* nodes outside the class space that may be reserved at once, 1 to 64 */
     uint32_t class_nodes;  /* nodes of the class space, which are reserved from the start, 0 to 16 */
@@ -184,22 +196,21 @@ typedef struct nizgrabul_sums_of_loader {
     nizgrabul_arena_sums class_space; /* in the class space */
 } nizgrabul_sums_of_loader;
 
-/* Tells the library's version, for a program to compare with the NIZGRABUL_VERSION of its header. Takes
- * no memory. */
+/* Returns the library's version, for a program to compare with the NIZGRABUL_VERSION of its header. Takes no
+ * memory. */
 uint32_t nizgrabul_version(void);
 
-/* Makes a system with no loader in an empty handle, under the settings that the options name. Answers
- * IN_USE exactly where the handle has a system already, in an empty one BAD_SETTINGS exactly where an
- * option is out of its range, and else DONE or OUT_OF_MEMORY; all but DONE leave the handle as it was.
- * Takes memory. */
+/* Makes a system with no loader in an empty handle, under the settings that the options name. Answers IN_USE
+ * exactly where the handle has a system already, in an empty one BAD_SETTINGS exactly where an option is out
+ * of its range, and else DONE or OUT_OF_MEMORY; all but DONE leave the handle as it was. Takes memory. */
 uint32_t nizgrabul_new(const nizgrabul_options *options, nizgrabul_handle *out);
 
 /* Ends the handle's system, if there is one, and gives all its memory back; the handle is empty then, and
  * may be used anew. Takes no memory. */
 void nizgrabul_delete(nizgrabul_handle *handle);
 
-/* Makes a loader with nothing of its own, under a number that no loader has. The kind is 0 standard, 1
- * boot, 2 reflection or 3 hidden; BAD_KIND answers any other. Refused with LOADER_EXISTS, IDS_USED_UP and
+/* Makes a loader with nothing of its own, under a number that no loader has. The kind is 0 standard, 1 boot,
+ * 2 reflection or 3 hidden; BAD_KIND answers any other. Refused with LOADER_EXISTS, IDS_USED_UP and
  * OUT_OF_MEMORY. Takes memory. */
 nizgrabul_answer nizgrabul_new_loader(nizgrabul_handle *handle, uint16_t loader, uint32_t kind);
 
@@ -208,78 +219,197 @@ nizgrabul_answer nizgrabul_new_loader(nizgrabul_handle *handle, uint16_t loader,
  * needs; under none all stay. Refused with NO_LOADER alone. Takes no memory. */
 nizgrabul_answer nizgrabul_unload(nizgrabul_handle *handle, uint16_t loader);
 
-/* Allocates a block of so many words, 1 to 524288, outside the class space, under a number that the
- * loader has no block of; `value` is the word where it starts. One word makes a block of two. All its
- * words lie in committed granules, and no other block of any loader overlaps it. Refused, in this order,
- * with NO_LOADER, BLOCK_EXISTS, ZERO_WORDS, TOO_LARGE, and with RESERVE_LIMIT, COMMIT_LIMIT or
- * OUT_OF_MEMORY. Takes memory. */
+/* Allocates a block of so many words, 1 to 524288, outside the class space, under a number that the loader
+ * has no block of; `value` is the word where it starts. One word makes a block of two. All its words lie in
+ * committed granules, and no other block of any loader overlaps it. Refused, in this order, with NO_LOADER,
+ * BLOCK_EXISTS, ZERO_WORDS, TOO_LARGE, and with RESERVE_LIMIT, COMMIT_LIMIT or OUT_OF_MEMORY. Takes
+ * memory. */
 nizgrabul_answer nizgrabul_alloc(nizgrabul_handle *handle, uint16_t loader, uint32_t block, uint64_t words);
 
 /* Allocates a block in the class space, as nizgrabul_alloc does; a loader's blocks of both spaces share
  * their numbers. Takes memory. */
 nizgrabul_answer nizgrabul_calloc(nizgrabul_handle *handle, uint16_t loader, uint32_t block, uint64_t words);
 
-/* Allocates a block as nizgrabul_alloc does, and tells in `out` the run of granules that it committed:
- * each that became committed lies in it, and each of it is committed now; none has gone. Under the
- * policies balanced and aggressive all of the run became committed; under none some of it may have been
- * before. All but DONE leave `out` as it was. Takes memory. */
+/* Allocates a block as nizgrabul_alloc does, and tells in `out` the run of granules that it committed: each
+ * that became committed lies in it, and each of it is committed now; none has gone. Under the policies
+ * balanced and aggressive all of the run became committed; under none some of it may have been before. All
+ * but DONE leave `out` as it was. Takes memory. */
 nizgrabul_answer nizgrabul_alloc_with_run(nizgrabul_handle *handle, uint16_t loader, uint32_t block,
                                           uint64_t words, nizgrabul_run *out);
 
-/* Allocates a block in the class space, and tells the run of granules that it committed, as
+/* Allocates a block in the class space, and returns the run of granules that it committed, as
  * nizgrabul_alloc_with_run does. Takes memory. */
 nizgrabul_answer nizgrabul_calloc_with_run(nizgrabul_handle *handle, uint16_t loader, uint32_t block,
                                            uint64_t words, nizgrabul_run *out);
 
 /* Frees a block, whose words become a free block of its loader; its number may be used anew. No granule
- * changes. Refused with NO_LOADER, and with NO_BLOCK where the loader has no live block of the number.
- * Takes no memory. */
+ * changes. Refused with NO_LOADER, and with NO_BLOCK where the loader has no live block of the number. Takes
+ * no memory. */
 nizgrabul_answer nizgrabul_free(nizgrabul_handle *handle, uint16_t loader, uint32_t block);
 
-/* Frees the live block of a loader that starts there and has so many words, at least two, as
- * nizgrabul_free does by its number, which may then be used anew. Refused with NO_LOADER, and with
- * NOT_LIVE where the loader has no such live block. Takes no memory, and looks at each of the loader's
- * numbers until it is found. */
+/* Frees the live block of a loader that starts there and has so many words, at least two, as nizgrabul_free
+ * does by its number, which may then be used anew. Refused with NO_LOADER, and with NOT_LIVE where the
+ * loader has no such live block. Takes no memory, and visits each of the loader's numbers until it is
+ * found. */
 nizgrabul_answer nizgrabul_free_block(nizgrabul_handle *handle, uint16_t loader, uint64_t start, uint64_t words);
 
 /* Gives back the nodes in which no chunk is held; `value` is how many they were. Those of the class space
- * stay. No granule of a node that went is committed; only under the policy none one can have been. Takes
- * no memory. */
+ * stay. No granule of a node that went is committed; only under the policy none one can have been. Takes no
+ * memory. */
 nizgrabul_answer nizgrabul_purge(nizgrabul_handle *handle);
 
-/* Tells how many granules are committed in both spaces and how many may be, and the same of nodes outside
- * the class space. Answers DONE, or NO_SYSTEM, which leaves `out` as it was. Takes no memory, and looks
- * at no loader and no chunk. */
+/* Returns how many granules are committed in both spaces and how many may be, and the same of nodes outside
+ * the class space. Answers DONE, or NO_SYSTEM, which leaves `out` as it was. Takes no memory, and visits no
+ * loader and no chunk. */
 uint32_t nizgrabul_counts(nizgrabul_handle *handle, nizgrabul_limit_counts *out);
 
-/* Tells the words in use of one loader, in both spaces, and 0 where none has the number. Takes no memory.
- */
+/* Returns the words in use of one loader, in both spaces, and 0 where none has the number. Takes no
+ * memory. */
 uint64_t nizgrabul_used_by(nizgrabul_handle *handle, uint16_t loader);
 
 /* Tells whose a word is: `value` is the number of the loader in whose chunk the word lies, in use or not.
- * Answers NO_LOADER where it lies in nobody's. Takes no memory, and answers in the depth of a tree and
- * one look-up. */
+ * Answers NO_LOADER where it lies in nobody's. Takes no memory, and answers in the depth of a tree and one
+ * look-up. */
 nizgrabul_answer nizgrabul_holder(nizgrabul_handle *handle, uint64_t word);
 
-/* Tells whether a granule is committed: the words from its number times a granule's words on, which are
+/* Returns whether a granule is committed: the words from its number times a granule's words on, which are
  * 8192, or 2048 under the policy aggressive. With no system none is. Takes no memory. */
 bool nizgrabul_is_committed(nizgrabul_handle *handle, uint64_t granule);
 
-/* Tells of each granule from the first on, as many as `out` has places, whether it is committed; with no
+/* Returns of each granule from the first on, as many as `out` has places, whether it is committed; with no
  * system none is. So a program compares before and after in one call. Takes no memory. */
 void nizgrabul_granules(nizgrabul_handle *handle, uint32_t first, bool *out, size_t places);
 
-/* Tells all sums over the system. Answers DONE, NO_SYSTEM or OUT_OF_MEMORY; all but DONE leave `out` as
- * it was. Takes memory while it runs; looks at each node, loader and chunk, and at no block. */
+/* Returns all sums over the system. Answers DONE, NO_SYSTEM or OUT_OF_MEMORY; all but DONE leave `out` as it
+ * was. Takes memory while it runs; visits each node, loader and chunk, and no block. */
 uint32_t nizgrabul_totals(nizgrabul_handle *handle, nizgrabul_sums_of_all *out);
 
-/* Tells the sums of one loader. Answers DONE, NO_SYSTEM, or NO_LOADER where none has the number; all but
- * DONE leave `out` as it was. Takes no memory; looks at each chunk of that loader, at no block, and at no
- * other loader. */
+/* Returns the sums of one loader. Answers DONE, NO_SYSTEM, or NO_LOADER where none has the number; all but
+ * DONE leave `out` as it was. Takes no memory; visits each chunk of that loader, no block, and no other
+ * loader. */
 uint32_t nizgrabul_loader_totals(nizgrabul_handle *handle, uint16_t loader, nizgrabul_sums_of_loader *out);
+
+/* One pool for many threads. Each class loader has a seat of its own, and is on the thread that has the seat:
+ * it moves to another thread where the program hands the seat there. Blocks come of what a loader has, with no
+ * lock, until it needs more of the pool: for that its seat takes the pool, and no other seat has it meanwhile.
+ *
+ *     nizgrabul_seat first = {0}, second = {0};
+ *     nizgrabul_share(&options, 2, &first);                  a pool with two seats
+ *     nizgrabul_seat_split(&first, &second);                 one for each loader; on the thread that has first:
+ *     nizgrabul_seat_wait(&first);                           this thread has the pool
+ *     nizgrabul_seat_new_loader(&first, NIZGRABUL_STANDARD);
+ *     nizgrabul_seat_let_go(&first);
+ *     nizgrabul_answer block = nizgrabul_seat_alloc(&first, 7, 4000);
+ *     if (block.status == NIZGRABUL_NOT_HELD) {              the loader needs more than it has
+ *         nizgrabul_seat_wait(&first);
+ *         block = nizgrabul_seat_alloc(&first, 7, 4000);
+ *         ..                                                 commit what nizgrabul_seat_granules returns anew
+ *         nizgrabul_seat_let_go(&first);
+ *     }
+ *
+ * What a program owes here, since nothing checks it:
+ * - What is owed of a handle is owed of a seat: it begins as zeros, one call at a time has it, and of a seat and
+ *   its copy only one is used again. It goes to another thread by a lock, by the start or the end of a thread,
+ *   or by a sequentially consistent atomic. `seat` and `out` are two.
+ * - Memory is committed, and given back, while the seat has the pool: once it let the pool go, another seat may
+ *   get the same granules, and would have them committed before they are given back.
+ * - A thread has the pool by one seat at a time, and not for long: meanwhile every other seat is answered BUSY.
+ *   To ask for it by a second seat is to ask forever.
+ * No call of a seat waits for another thread. nizgrabul_seat_wait, at the end of this header, asks until the seat
+ * has the pool; NIZGRABUL_WAIT(tries), defined before this header, puts a program's own way to wait in its place.
+ * A pool ends with its last seat, and has at most 65536 of them; a seat whose loader was unloaded serves the next
+ * one. There is no move of a loader between two seats: the seat moves. */
+
+/* Makes a pool with no loader, under the settings that the options name, for so many seats, 1 to 65536.
+ * `out` gets the first seat, which has all others to spare. Answers IN_USE exactly where `out` has a seat
+ * already, where it has none BAD_SETTINGS exactly where an option or the number of seats is out of its
+ * range, and else DONE or OUT_OF_MEMORY; all but DONE leave `out` as it was. Takes memory. */
+uint32_t nizgrabul_share(const nizgrabul_options *options, uint32_t seats, nizgrabul_seat *out);
+
+/* Gives `out` one of the seats that `seat` has to spare, for a loader of its own and for any thread. Answers
+ * NO_SEAT exactly where `seat` has none, IN_USE where `out` has one already, NO_SPARE where none is to
+ * spare, and else DONE or OUT_OF_MEMORY; all but DONE change nothing. Takes memory. */
+uint32_t nizgrabul_seat_split(nizgrabul_seat *seat, nizgrabul_seat *out);
+
+/* Ends a seat, if there is one, and gives the pool back where the seat has it; the last seat of a pool ends
+ * the pool. Chunks of a loader that was not unloaded stay with the pool, and so do seats to spare. The seat
+ * is empty then, and may be used anew. Takes no memory. */
+void nizgrabul_seat_end(nizgrabul_seat *seat);
+
+/* Takes the pool for a seat, by one try, and keeps it until nizgrabul_seat_let_go. Answers BUSY where
+ * another seat has the pool, which changes nothing; DONE where the seat has it then, also where it had; and
+ * NO_SEAT. Takes no memory. */
+uint32_t nizgrabul_seat_hold(nizgrabul_seat *seat);
+
+/* Gives the pool back that a seat has. Answers NOT_HELD where it doesn't have it, and NO_SEAT, which change
+ * nothing, and else DONE. Takes no memory. */
+uint32_t nizgrabul_seat_let_go(nizgrabul_seat *seat);
+
+/* Makes the seat's loader, with nothing of its own, over the pool that the seat has. The kind is 0 standard,
+ * 1 boot, 2 reflection or 3 hidden; BAD_KIND answers any other. Refused with NO_SEAT, LOADER_EXISTS,
+ * NOT_HELD and IDS_USED_UP. Takes no memory. */
+nizgrabul_answer nizgrabul_seat_new_loader(nizgrabul_seat *seat, uint32_t kind);
+
+/* Unloads the seat's loader, over the pool that the seat has: all its blocks and chunks go with it, and the
+ * seat may make another. Under the policies balanced and aggressive just the granules stay committed that a
+ * chunk of another loader still needs; under none all stay. Refused with NO_SEAT, NO_LOADER and NOT_HELD.
+ * Takes no memory. */
+nizgrabul_answer nizgrabul_seat_unload(nizgrabul_seat *seat);
+
+/* Allocates a block of so many words, 1 to 524288, outside the class space, under a number that the seat's
+ * loader has no block of; `value` is the word where it starts. One word makes a block of two. Where the seat
+ * has the pool, granules may become committed. Where it doesn't, no lock is tried: the block comes of the
+ * committed words that the loader has, and NOT_HELD answers where these don't serve. Refused, in this order,
+ * with NO_SEAT, NO_LOADER, BLOCK_EXISTS, ZERO_WORDS, TOO_LARGE, and with NOT_HELD, RESERVE_LIMIT,
+ * COMMIT_LIMIT or OUT_OF_MEMORY. Takes memory. */
+nizgrabul_answer nizgrabul_seat_alloc(nizgrabul_seat *seat, uint32_t block, uint64_t words);
+
+/* Allocates a block in the class space, as nizgrabul_seat_alloc does; a loader's blocks of both spaces share
+ * their numbers. Takes memory. */
+nizgrabul_answer nizgrabul_seat_calloc(nizgrabul_seat *seat, uint32_t block, uint64_t words);
+
+/* Frees a block, whose words become a free block of the seat's loader; its number may be used anew. No
+ * granule changes, and the pool isn't needed. Refused with NO_SEAT, NO_LOADER, and with NO_BLOCK where the
+ * loader has no live block of the number. Takes no memory. */
+nizgrabul_answer nizgrabul_seat_free(nizgrabul_seat *seat, uint32_t block);
+
+/* Gives the nodes of the pool that the seat has back in which no chunk is held; `value` is how many they
+ * were. Those of the class space stay. No granule of a node that went is committed; only under the policy
+ * none one can have been. Refused with NO_SEAT and NOT_HELD. Takes no memory. */
+nizgrabul_answer nizgrabul_seat_purge(nizgrabul_seat *seat);
+
+/* Returns the words in use of the seat's loader, in both spaces, and 0 where there is none. Takes no
+ * memory. */
+uint64_t nizgrabul_seat_used(nizgrabul_seat *seat);
+
+/* Returns the sums of the seat's loader. Answers DONE, NO_SEAT, or NO_LOADER where there is none; all but
+ * DONE leave `out` as it was. Takes no memory; visits each chunk of the loader, and no block. */
+uint32_t nizgrabul_seat_totals(nizgrabul_seat *seat, nizgrabul_sums_of_loader *out);
+
+/* Returns of each granule from the first on, as many as `out` has places, whether it is committed in the
+ * pool that the seat has. Answers DONE; NOT_HELD exactly where the seat doesn't have the pool, and NO_SEAT,
+ * which leave `out` as it was. Takes no memory. */
+uint32_t nizgrabul_seat_granules(nizgrabul_seat *seat, uint32_t first, bool *out, size_t places);
 
 #ifdef __cplusplus
 }
 #endif
+
+/* What is done between two tries: nothing the first times, then another thread is let run. */
+#ifndef NIZGRABUL_WAIT
+#include <sched.h>
+#define NIZGRABUL_WAIT(tries) ((tries) < 64 ? 0 : sched_yield())
+#endif
+
+/* Takes the pool for a seat as nizgrabul_seat_hold does, and asks until no other seat has it. Returns DONE or
+ * NO_SEAT. */
+static inline uint32_t nizgrabul_seat_wait(nizgrabul_seat *seat) {
+    uint32_t status, tries = 0;
+    while ((status = nizgrabul_seat_hold(seat)) == NIZGRABUL_BUSY) {
+        (void)NIZGRABUL_WAIT(tries);
+        tries += tries < 64;
+    }
+    return status;
+}
 
 #endif

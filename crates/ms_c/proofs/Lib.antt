@@ -1,2 +1,7 @@
+pub mod AloneLemmas
 pub mod AsBox
+pub mod AsSeat
+pub mod BitLemmas
+pub mod SeatedLemmas
+pub mod ServedLemmas
 pub mod Walking

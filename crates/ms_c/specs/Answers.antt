@@ -1,5 +1,5 @@
 -- What a call answers in numbers, and that a call is a step of the machine.
-use Rattle.std.specs.Prelude.{◌≡◌, ℕ, ◌<◌, ◌+◌, ◌⊎◌, length, Some, None}
+use Rattle.std.specs.Prelude.{◌≡◌, ℕ, ◌<◌, ◌+◌, ◌⊎◌, length, Option, Some, None}
 use Rattle.ms_base.specs.declared.step.Step.{Step}
 use Rattle.ms_base.specs.declared.step.Reply.{Reply}
 use Rattle.ms_base.specs.declared.step.Reply.TheVariants.{Ok as Done, At, Value, Refused}
@@ -102,3 +102,15 @@ pub record IsMade (options : Options) (before after : Held) : Type 0 where
   pub named : AreSettings options settings
   pub none : before ≡ None
   pub made : after ≡ Some (empty_machine (limits_of settings))
+
+-- There is no seat; and the seat doesn't have the pool.
+abbrev pub no_seat : Answer
+no_seat = numbers 26 0 0 0
+
+abbrev pub not_held : Answer
+not_held = numbers 25 0 0 0
+
+-- The numbers of a member's reply, and where the pool was wanting.
+abbrev pub told_by : Option Reply → Answer
+told_by None = not_held
+told_by (Some reply) = told reply

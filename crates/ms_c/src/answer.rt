@@ -1,6 +1,6 @@
 //! What a call answers, in numbers.
 ghost use Rattle.std.specs.Prelude.{◌≡◌, OnOk, IfErr};
-ghost use Rattle.ms_c.specs.Answers.{told, refused_as, numbers};
+ghost use Rattle.ms_c.specs.Answers.{told, refused_as, numbers, told_by};
 
 use ms_base::{Refusal, Reply};
 
@@ -21,6 +21,18 @@ pub const IN_USE: u32 = 21;
 
 /// A setting is out of its range.
 pub const BAD_SETTINGS: u32 = 22;
+
+/// Another seat has the pool.
+pub const BUSY: u32 = 24;
+
+/// The seat does not have the pool.
+pub const NOT_HELD: u32 = 25;
+
+/// There is no seat.
+pub const NO_SEAT: u32 = 26;
+
+/// There is no seat to spare.
+pub const NO_SPARE: u32 = 27;
 
 /// A status, 0 where the call is served, and its numbers: `value` is a start or a word, and of a
 /// refusal what there is of what was wanted; `limit` and `need` are those of a limit.
@@ -53,6 +65,22 @@ impl Answer {
     /// No kind of loader has the number.
     pub const BAD_KIND: Answer = Answer {
         status: 23,
+        value: 0,
+        limit: 0,
+        need: 0,
+    };
+
+    /// The seat does not have the pool.
+    pub const NOT_HELD: Answer = Answer {
+        status: 25,
+        value: 0,
+        limit: 0,
+        need: 0,
+    };
+
+    /// There is no seat.
+    pub const NO_SEAT: Answer = Answer {
+        status: 26,
         value: 0,
         limit: 0,
         need: 0,
@@ -119,6 +147,16 @@ pub fn tell(reply: Reply) -> Answer
         Reply::Ok => plain(0),
         Reply::At(value) | Reply::Value(value) => Answer::of(value),
         Reply::Refused(refusal) => refused(refusal),
+    }
+}
+
+/// Returns a member's reply in numbers, where there is one: else the pool was wanting.
+pub fn tell_seated(reply: Option<Reply>) -> Answer
+    ensures { result ≡ told_by reply }
+{
+    match reply {
+        Some(reply) => tell(reply),
+        None => Answer::NOT_HELD,
     }
 }
 
