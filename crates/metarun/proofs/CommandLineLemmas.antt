@@ -84,7 +84,7 @@ pub default_is_asked : {X : Type 0} (text : X → Text) (words : List X) (option
 default_is_asked text words options few default allowed =
     let policies = somewhere (map somewhere (codes "balanced" ∷ codes "aggressive" ∷ codes "none" ∷ [])) in
     let reports = somewhere (map somewhere (codes "basic" ∷ codes "full" ∷ [])) in
-    let forms = somewhere (map somewhere (codes "text" ∷ codes "json" ∷ [])) in
+    let forms = somewhere (map somewhere (codes "text" ∷ codes "html" ∷ codes "json" ∷ [])) in
     let rows = matches_of (line_of policies reports forms) (map text words) in
     let found = found_nowhere policies reports forms text words few in
     record {
@@ -130,7 +130,7 @@ alone_is_no_help words (Ok options) says = tt
 alone_is_no_help words (Err refused) (inl says) =
     says_no_help words (codes "metarun: --addresses needs --workers 1\n") refused says
 alone_is_no_help words (Err refused) (inr says) =
-    says_no_help words (codes "metarun: --format json needs --workers 1\n") refused says
+    says_no_help words (codes "metarun: --format html or json needs --workers 1\n") refused says
 
 -- What was chosen from the matches is what the words ask for.
 pub chosen_is_asked : (app : App) (words : List Text) (rows : List Row) (chosen : Result Options Refused)

@@ -73,10 +73,10 @@ returns-in-Html-clause-ok g c =
 
 pub returns-in-Html-clause-err : goal.returns-in-Html-clause-err
 returns-in-Html-clause-err g c =
-    want_blames c.args.options.now.max_lines (g.R.Read.remaining c.args.input.now) c.page_of.result c.page_of.ensures
+    want_blames c.args.options.now.max_lines (g.R.Read.remaining c.args.input.now) c.page_of.result c.page_of.ensures.err
 
 pub returns-in-Html-clause-settled : goal.returns-in-Html-clause-settled
-returns-in-Html-clause-settled g c = want_settles c.page_of.result c.page_of.ensures
+returns-in-Html-clause-settled g c = want_settles c.page_of.result c.page_of.ensures.err
 
 pub returns-clause-ok : goal.returns-clause-ok
 returns-clause-ok g c =
