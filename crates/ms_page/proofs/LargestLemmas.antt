@@ -1,30 +1,30 @@
 -- Loaders in order, with one more, and the first of them. `rank` and `largest` use these.
-use Rattle.std.proofs.Common.{◌≡◌, ◌<◌, ◌≤◌, ◌+◌, ◌∙◌, ℕ, zero, suc, Bool, true, false, List, [], ◌∷◌, ◌++◌, length, take, drop, get_or}
+use Rattle.std.proofs.Common.{◌≡◌, ◌<◌, ◌+◌, ◌∙◌, ℕ, zero, suc, Bool, true, false, List, [], ◌∷◌, length, take, get_or}
 use Rattle.std.proofs.Common.{sym, ap, refl, arith, if◌then◌else◌}
 use Rattle.std.specs.Prelude.{cond}
-use Rattle.std.specs.List.{fold, insert}
+use Rattle.std.specs.List.{insert}
 use Rattle.std.proofs.lemmas.List.{take-take}
 use Rattle.std.proofs.lemmas.List.Sums.{fold_more}
 use Rattle.ms_page.specs.declared.holding.Holding.{Holding}
-use Rattle.ms_page.specs.Largest.{comes_before, largest_of, place_of, ranked_of, ranked_with}
+use Rattle.ms_page.specs.Largest.{comes_before, largest_of, position_of, ranked_of, ranked_with}
 
 -- A loader is put where those that come before it end.
 put_by : (holding other : Holding) (ranked : List Holding) (before : Bool) → comes_before other holding ≡ before
-    → insert ranked (place_of holding ranked) holding ≡ ranked_with holding ranked
-    → insert (other ∷ ranked) (place_of holding (other ∷ ranked)) holding ≡ ranked_with holding (other ∷ ranked)
+    → insert ranked (position_of holding ranked) holding ≡ ranked_with holding ranked
+    → insert (other ∷ ranked) (position_of holding (other ∷ ranked)) holding ≡ ranked_with holding (other ∷ ranked)
 put_by holding other ranked true before later =
-    let next : 1 + place_of holding ranked ≡ suc (place_of holding ranked) = omega arith in
-    ap (λ (place : ℕ). insert (other ∷ ranked) place holding)
-    (ap (λ (b : Bool). cond b (1 + place_of holding ranked) 0) before ∙ next)
+    let next : 1 + position_of holding ranked ≡ suc (position_of holding ranked) = omega arith in
+    ap (λ (position : ℕ). insert (other ∷ ranked) position holding)
+    (ap (λ (b : Bool). cond b (1 + position_of holding ranked) 0) before ∙ next)
     ∙ ap (λ (l : List Holding). other ∷ l) later
     ∙ sym (ap (λ (b : Bool). if b then other ∷ ranked_with holding ranked else holding ∷ other ∷ ranked) before)
 put_by holding other ranked false before later =
-    ap (λ (place : ℕ). insert (other ∷ ranked) place holding)
-    (ap (λ (b : Bool). cond b (1 + place_of holding ranked) 0) before)
+    ap (λ (position : ℕ). insert (other ∷ ranked) position holding)
+    (ap (λ (b : Bool). cond b (1 + position_of holding ranked) 0) before)
     ∙ sym (ap (λ (b : Bool). if b then other ∷ ranked_with holding ranked else holding ∷ other ∷ ranked) before)
 
 pub put_is : (holding : Holding) (ranked : List Holding)
-    → insert ranked (place_of holding ranked) holding ≡ ranked_with holding ranked
+    → insert ranked (position_of holding ranked) holding ≡ ranked_with holding ranked
 put_is holding [] = refl
 put_is holding (other ∷ ranked) =
     put_by holding other ranked (comes_before other holding) refl (put_is holding ranked)

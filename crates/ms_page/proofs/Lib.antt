@@ -5,5 +5,4 @@ pub mod PeakLemmas
 pub mod LargestLemmas
 pub mod RankLemmas
 pub mod StayLemmas
-pub mod SumLemmas
 pub mod CellLemmas

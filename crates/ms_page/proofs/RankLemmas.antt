@@ -1,15 +1,15 @@
 -- The order of loaders by size: it has all of them, and none comes before the one in front of it. `laws`
 -- uses this.
-use Rattle.std.proofs.Common.{◌≡◌, ◌<◌, ◌≤◌, ◌+◌, ◌∙◌, ◌==◌, ◌&&◌, ◌||◌, ℕ, zero, suc, Bool, true, false, List, [], ◌∷◌, ◌++◌}
+use Rattle.std.proofs.Common.{◌≡◌, ◌<◌, ◌+◌, ◌==◌, ◌&&◌, ◌||◌, ℕ, zero, suc, Bool, true, false, List, [], ◌∷◌, ◌++◌}
 use Rattle.std.proofs.Common.{length, get_or, refl, sym, subst, arith, if◌then◌else◌}
 use Rattle.std.specs.Prelude.{nat_lt}
-use Rattle.std.specs.List.{fold, insert}
+use Rattle.std.specs.List.{fold}
 use Rattle.std.specs.List.Sorted.{IsPermutation}
 use Rattle.std.proofs.lemmas.Bool.Decides.{nat_tests}
 use Rattle.std.proofs.lemmas.List.{append-nil}
 use Rattle.std.proofs.lemmas.List.Sorted.{IsPermutation-append_left, IsPermutation-insert, IsPermutation-middle, IsPermutation-refl, IsPermutation-trans}
 use Rattle.ms_page.specs.declared.holding.Holding.{Holding}
-use Rattle.ms_page.specs.Largest.{comes_before, place_of, ranked_of, ranked_with}
+use Rattle.ms_page.specs.Largest.{comes_before, position_of, ranked_of, ranked_with}
 use Rattle.ms_page.specs.Laws.{IsRanking}
 use Rattle.ms_page.proofs.LargestLemmas.{put_is}
 
@@ -17,7 +17,7 @@ use Rattle.ms_page.proofs.LargestLemmas.{put_is}
 with_all : (holding : Holding) (ranked : List Holding) → IsPermutation (holding ∷ ranked) (ranked_with holding ranked)
 with_all holding ranked =
     subst (λ (l : List Holding). IsPermutation (holding ∷ ranked) l) (put_is holding ranked)
-    (IsPermutation-insert ranked (place_of holding ranked) holding)
+    (IsPermutation-insert ranked (position_of holding ranked) holding)
 
 abbrev put : List Holding → Holding → List Holding
 put ranked holding = ranked_with holding ranked
@@ -78,21 +78,21 @@ order_from ranked [] its = its
 order_from ranked (holding ∷ holdings) its =
     order_from (ranked_with holding ranked) holdings (with_ranked holding ranked its)
 
--- The same place by place.
-by_place : (ranked : List Holding) → IsRanked ranked → (place : ℕ) (other : Holding) → suc place < length ranked
-    → comes_before (get_or ranked (suc place) other) (get_or ranked place other) ≡ false
-by_place [] its place other within = absurd (omega (arith, within))
-by_place (one ∷ []) its place other within = absurd (omega (arith, within))
-by_place (one ∷ next ∷ others) its zero other within = its.0
-by_place (one ∷ next ∷ others) its (suc place) other within =
-    by_place (next ∷ others) its.1 place other (omega (arith, within))
+-- The same by position.
+by_position : (ranked : List Holding) → IsRanked ranked → (position : ℕ) (other : Holding) → suc position < length ranked
+    → comes_before (get_or ranked (suc position) other) (get_or ranked position other) ≡ false
+by_position [] its position other within = absurd (omega (arith, within))
+by_position (one ∷ []) its position other within = absurd (omega (arith, within))
+by_position (one ∷ next ∷ others) its zero other within = its.0
+by_position (one ∷ next ∷ others) its (suc position) other within =
+    by_position (next ∷ others) its.1 position other (omega (arith, within))
 
 pub is_ranking : (holdings : List Holding) → IsRanking holdings (ranked_of holdings)
 is_ranking holdings = record {
   all = all_from [] holdings;
-  order = λ place other low within.
-      let next : suc place ≡ place + 1 = omega arith in
+  order = λ position other low within.
+      let next : suc position ≡ position + 1 = omega arith in
       subst (λ (n : ℕ).
-      comes_before (get_or (ranked_of holdings) n other) (get_or (ranked_of holdings) place other) ≡ false) next
-      (by_place (ranked_of holdings) (order_from [] holdings tt) place other (omega (arith, within)));
+      comes_before (get_or (ranked_of holdings) n other) (get_or (ranked_of holdings) position other) ≡ false) next
+      (by_position (ranked_of holdings) (order_from [] holdings tt) position other (omega (arith, within)));
 }

@@ -1,8 +1,8 @@
 -- Births by column, and sums of them. `stays` and its parts use these.
-use Rattle.std.proofs.Common.{◌≡◌, ◌≢◌, ◌<◌, ◌≤◌, ◌+◌, ◌-◌, ◌^◌, ◌∙◌, ◌==◌, ◌&&◌, ℕ, zero, suc, Bool, true, false}
-use Rattle.std.proofs.Common.{List, [], ◌∷◌, ◌++◌, length, map, take, get_or, set, sum, sym, ap, subst, refl, arith, if◌then◌else◌}
-use Rattle.std.specs.Prelude.{cond, nat_le, nat_lt, nat_eq}
-use Rattle.std.specs.List.{All, count_by, range_with_len, sum_by}
+use Rattle.std.proofs.Common.{◌≡◌, ◌≢◌, ◌<◌, ◌≤◌, ◌+◌, ◌∙◌, ◌==◌, ◌&&◌, ℕ, zero, suc, Bool, true, false}
+use Rattle.std.proofs.Common.{List, [], ◌∷◌, ◌++◌, length, take, get_or, set, sum, sym, ap, subst, refl, arith, if◌then◌else◌}
+use Rattle.std.specs.Prelude.{cond, nat_le, nat_lt}
+use Rattle.std.specs.List.{count_by}
 use Rattle.std.proofs.lemmas.Bool.{eqb-false, eqb-true}
 use Rattle.std.proofs.lemmas.Bool.Decides.{nat_tests}
 use Rattle.std.proofs.lemmas.List.{take_all, take_more, get_or-set_same, get_or-set_other, get_or_default, length-set, same_lists}
@@ -31,20 +31,20 @@ abbrev is_born_before : ℕ → ℕ → Holding → Bool
 is_born_before lines column holding =
     nat_lt holding.since.position lines && nat_lt (column_of lines holding.since.position) column
 
-before_more : (is : Bool) (column place : ℕ)
-    → cond (is && nat_lt place column) 1 0 + cond (is && place == column) 1 0 ≡ cond (is && nat_lt place (column + 1)) 1 0
-before_more false column place = refl
-before_more true column place = grind (arith, nat_tests)
+before_more : (is : Bool) (column birth : ℕ)
+    → cond (is && nat_lt birth column) 1 0 + cond (is && birth == column) 1 0 ≡ cond (is && nat_lt birth (column + 1)) 1 0
+before_more false column birth = refl
+before_more true column birth = grind (arith, nat_tests)
 
-before_none : (is : Bool) (place : ℕ) → cond (is && nat_lt place 0) 1 0 + cond (is && nat_lt place 0) 1 0
-    ≡ cond (is && nat_lt place 0) 1 0
-before_none false place = refl
-before_none true place = grind (arith, nat_tests)
+before_none : (is : Bool) (birth : ℕ) → cond (is && nat_lt birth 0) 1 0 + cond (is && nat_lt birth 0) 1 0
+    ≡ cond (is && nat_lt birth 0) 1 0
+before_none false birth = refl
+before_none true birth = grind (arith, nat_tests)
 
-before_is_by : (is : Bool) (column place : ℕ) → cond (is && nat_lt place (column + 1)) 1 0 + cond (is && nat_lt place 0) 1 0
-    ≡ cond (is && nat_le place column) 1 0
-before_is_by false column place = refl
-before_is_by true column place = grind (arith, nat_tests)
+before_is_by : (is : Bool) (column birth : ℕ) → cond (is && nat_lt birth (column + 1)) 1 0 + cond (is && nat_lt birth 0) 1 0
+    ≡ cond (is && nat_le birth column) 1 0
+before_is_by false column birth = refl
+before_is_by true column birth = grind (arith, nat_tests)
 
 -- So many columns have so many births together.
 sum_before : (lines : ℕ) (holdings : List Holding) (births : List ℕ) → AreBirths lines holdings births
@@ -100,7 +100,7 @@ pub sums_are_stays : (columns : ColumnsView) (holdings : List Holding) (births :
     → sums_of births ≡ stays_of columns holdings
 sums_are_stays columns holdings births each count =
     same_lists (sums_of births) (stays_of columns holdings)
-    (length-map-range_with_len (λ (place : ℕ). sum (take (place + 1) births)) 0 (length births) ∙ count
+    (length-map-range_with_len (λ (last : ℕ). sum (take (last + 1) births)) 0 (length births) ∙ count
     ∙ sym (length-map-range_with_len (λ (column : ℕ). count_by (is_born_by columns.lines column) holdings) 0
     (length columns.columns)))
     (λ column other within.
@@ -108,9 +108,9 @@ sums_are_stays columns holdings births each count =
     omega (
       arith,
       within,
-      length-map-range_with_len (λ (place : ℕ). sum (take (place + 1) births)) 0 (length births),
+      length-map-range_with_len (λ (last : ℕ). sum (take (last + 1) births)) 0 (length births),
     ) in
-    get_or-map-range_with_len (λ (place : ℕ). sum (take (place + 1) births)) 0 (length births) column column other here
+    get_or-map-range_with_len (λ (last : ℕ). sum (take (last + 1) births)) 0 (length births) column column other here
     (omega arith)
     ∙ sum_by_column columns.lines holdings births each column here
     ∙ sym (get_or-map-range_with_len (λ (c : ℕ). count_by (is_born_by columns.lines c) holdings) 0
@@ -180,7 +180,7 @@ sums_more numbers sums new at more so_far is =
     is
     ∙ ap (λ (l : List ℕ). l ++ (sum (take at numbers) + get_or numbers at 0) ∷ []) so_far
     ∙ ap (λ (n : ℕ). sums_to numbers at ++ n ∷ []) (sym (sum_by_more (λ (n : ℕ). n) numbers at 0 more))
-    ∙ sym (map-range_with_len_more (λ (place : ℕ). sum (take (place + 1) numbers)) 0 at at (omega arith))
+    ∙ sym (map-range_with_len_more (λ (last : ℕ). sum (take (last + 1) numbers)) 0 at at (omega arith))
 
 -- The sums of what was counted are the loaders that stay.
 pub stays_from : (columns : ColumnsView) (holdings : List Holding) (births numbers : List ℕ) (lines count : ℕ)

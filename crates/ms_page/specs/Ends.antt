@@ -1,4 +1,4 @@
--- What totals tell of each loader and of each root (this project's choice).
+-- The loaders and the roots that totals have (this project's choice).
 use Rattle.std.specs.Prelude.{List, [], Option, Some, None}
 use Rattle.ms_loaders.specs.declared.details.Details.{Details}
 use Rattle.ms_loaders.specs.declared.details.LoaderDetails.{LoaderDetails}

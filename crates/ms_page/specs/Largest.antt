@@ -8,9 +8,9 @@ abbrev pub comes_before : Holding → Holding → Bool
 comes_before one other =
     nat_lt other.capacity one.capacity || one.capacity == other.capacity && nat_lt one.name other.name
 
--- How many of the loaders come before one, and these with it at its place.
-abbrev pub place_of : Holding → List Holding → ℕ
-place_of holding ranked = prefix_len (λ other. comes_before other holding) ranked
+-- How many of the loaders come before one, and these with it at its position.
+abbrev pub position_of : Holding → List Holding → ℕ
+position_of holding ranked = prefix_len (λ other. comes_before other holding) ranked
 
 abbrev pub ranked_with : Holding → List Holding → List Holding
 ranked_with holding [] = holding ∷ []

@@ -33,7 +33,7 @@ with_birth lines position births =
 
 -- Of so many of the numbers, each with all before it; and of all of them.
 abbrev pub sums_to : List ℕ → ℕ → List ℕ
-sums_to numbers count = map (λ place. sum (take (place + 1) numbers)) (range_with_len 0 count)
+sums_to numbers count = map (λ last. sum (take (last + 1) numbers)) (range_with_len 0 count)
 
 abbrev pub sums_of : List ℕ → List ℕ
 sums_of numbers = sums_to numbers (length numbers)

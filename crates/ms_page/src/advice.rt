@@ -2,8 +2,7 @@
 //!
 //! Kept true: a greater limit is advised only where lines were refused for want of it or where the
 //! peak came within a root chunk of it. Takes no memory.
-ghost use Rattle.std.specs.Prelude.{◌≡◌, ◌<◌, ◌^◌, ◌/◌, ◌≤◌};
-ghost use Rattle.ms_base.specs.Policy.{granule_of};
+ghost use Rattle.std.specs.Prelude.{◌≡◌, ◌<◌, ◌^◌, ◌≤◌};
 ghost use Rattle.ms_page.specs.Advice.{advice_of, commit_advice, granules_of, more_class_nodes};
 ghost use Rattle.ms_page.specs.Advice.{more_nodes, policy_advice, raised, some_ask};
 

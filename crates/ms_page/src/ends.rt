@@ -1,4 +1,4 @@
-//! What totals tell of each loader and of each root, where they tell it.
+//! The loaders and the roots that totals have, where they have details.
 ghost use Rattle.std.specs.Prelude.{◌≡◌};
 ghost use Rattle.ms_page.specs.Ends.{loaders_in, roots_in};
 

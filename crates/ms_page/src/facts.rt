@@ -2,11 +2,10 @@
 //!
 //! Kept true: each number is the one that `specs/Facts.antt` gives for the settings, the course and
 //! the totals of the end. Takes no memory.
-ghost use Rattle.std.specs.Prelude.{◌≡◌, ◌<◌, ◌≤◌, ◌+◌, ◌^◌, unwrap_or};
+ghost use Rattle.std.specs.Prelude.{◌≡◌, ◌<◌, ◌^◌};
 ghost use Rattle.ms_report.specs.Usage.{limit_of};
-ghost use Rattle.ms_page.specs.Ends.{roots_in};
 ghost use Rattle.ms_page.specs.Facts.{asks_of, facts_of, fewest_in, lines_of, node_limit_of};
-ghost use Rattle.ms_page.specs.Facts.{nodes_of, refused_of, unloads_of, wants_of};
+ghost use Rattle.ms_page.specs.Facts.{refused_of, unloads_of, wants_of};
 ghost use Rattle.ms_page.specs.Peaks.{class_words};
 
 use crate::cells::count_empty_nodes;

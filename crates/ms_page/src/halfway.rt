@@ -1,7 +1,7 @@
 //! The loaders half-way by name, so that one look finds each.
 //!
-//! Kept true: a table has the live words of each name that there was half-way, of the last loader of
-//! the name where it recurs, and nothing at other names. Takes memory for 65536 names.
+//! Kept true: a table has the live words of each name that there was half-way, of the last loader
+//! of the name where it recurs, and nothing at other names. Takes memory for 65536 names.
 ghost use Rattle.std.specs.Prelude.{◌≡◌, ◌<◌, ℕ, [], IfOk, List, length, slice_index_or};
 ghost use Rattle.ms_course.specs.declared.course.LoaderThen.{LoaderThen as Then};
 ghost use Rattle.ms_page.specs.Halfway.{IsTable, live_then};

@@ -2,9 +2,9 @@
 //!
 //! Kept true: the list has each loader of the end once, in their order, with exactly its sums over
 //! both spaces. Takes memory for the list, and while it is made for the names half-way.
-ghost use Rattle.std.specs.Prelude.{◌≡◌, ◌+◌, IfOk, map};
+ghost use Rattle.std.specs.Prelude.{◌≡◌, IfOk, map};
 ghost use Rattle.ms_page.specs.Halfway.{IsTable};
-ghost use Rattle.ms_page.specs.Holdings.{growth_of, held_by, holding_of, since_of};
+ghost use Rattle.ms_page.specs.Holdings.{held_by, holding_of, since_of};
 
 use crate::halfway::{live_at, live_by_name};
 use crate::holding::{Growth, Holding, growth_between};
@@ -42,7 +42,7 @@ fn list(
     Ok(holdings)
 }
 
-/// Tells what a loader holds.
+/// Returns what a loader holds.
 fn hold(course: &Course, table: &[Option<u64>], loader: &LoaderDetails) -> Holding
     requires { IsTable table.now course.now.halfway }
     ensures { result ≡ holding_of course.now loader.now }

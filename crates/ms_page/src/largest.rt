@@ -2,8 +2,8 @@
 //!
 //! Kept true: of all loaders none that is left out comes before one that is in the list. Takes
 //! memory for 21 loaders.
-ghost use Rattle.std.specs.Prelude.{◌≡◌, ◌<◌, ◌≤◌, IfOk, OnOk, vec_len, length, take};
-ghost use Rattle.ms_page.specs.Largest.{comes_before, largest_of, place_of, ranked_with};
+ghost use Rattle.std.specs.Prelude.{◌≡◌, ◌≤◌, IfOk, OnOk, length, take};
+ghost use Rattle.ms_page.specs.Largest.{comes_before, largest_of, position_of, ranked_with};
 
 use crate::holding::Holding;
 use std::alloc::{AllocError, Global};
@@ -22,25 +22,25 @@ pub(crate) fn largest(alloc: Global, holdings: &[Holding]) -> Result<Vec<Holding
     Ok(largest)
 }
 
-/// Puts one more loader at its place, and leaves out the last one where there are too many.
+/// Puts one more loader at its position, and leaves out the last one where there are too many.
 fn rank(largest: &mut Vec<Holding>, holding: &Holding) -> Result<(), AllocError>
     ensures { OnOk result (largest.new.items
         ≡ take 20 (ranked_with holding.now largest.old.items)) }
 {
-    let place = place_of(largest, holding);
-    largest.insert(place, *holding)?;
+    let position = position_of(largest, holding);
+    largest.insert(position, *holding)?;
     largest.truncate(MOST);
     Ok(())
 }
 
 /// Returns how many of the largest loaders come before one.
-fn place_of(largest: &[Holding], holding: &Holding) -> usize
-    ensures place { result ≡ place_of holding.now largest.now }
+fn position_of(largest: &[Holding], holding: &Holding) -> usize
+    ensures position { result ≡ position_of holding.now largest.now }
     ensures within { result ≤ length largest.now }
 {
-    for (place, other) in largest.iter().enumerate() {
+    for (position, other) in largest.iter().enumerate() {
         if !comes_before(other, holding) {
-            return place;
+            return position;
         }
     }
     largest.len()

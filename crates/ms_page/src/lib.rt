@@ -1,5 +1,5 @@
-//! What a page shows of a replay, as values: one picture of a run, and the lengths and names by which
-//! it is drawn.
+//! What a page shows of a replay, as values: one picture of a run, and the lengths and names by
+//! which it is drawn.
 //!
 //!     settings, course, totals ── Picture::new ──> facts, tiles, advice, peaks, loaders, cells ..
 //!     number, whole ── scaled ───────────────────> a length on the track
@@ -7,8 +7,8 @@
 //!     a name        ── push_escaped ─────────────> text without `<`, `>` or `"`
 //!
 //! Kept true: a bar stays in its track and something is never drawn as nothing; a tile says that
-//! there is a problem exactly where a line was refused for want of what it shows; the list of loaders
-//! has each loader of the end once. Apart because no other form draws. Stands on `ms_base`,
+//! there is a problem exactly where a line was refused for want of what it shows; the list of
+//! loaders has each loader of the end once. Apart because no other form draws. Stands on `ms_base`,
 //! `ms_course`, `ms_loaders`, `ms_pool` and `ms_report`. `Picture::new` and `push_escaped` take
 //! memory; nothing waits. All of it is this project's choice.
 #![tactic(auto)]

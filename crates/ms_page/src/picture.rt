@@ -68,9 +68,9 @@ struct Lists {
 }
 
 impl Picture {
-    /// Makes the picture of a run with these settings and this course, of which these are the totals
-    /// at the end. Without details in the totals there are no loaders and no cells. Takes memory for
-    /// the lists; an error means that it was refused.
+    /// Makes the picture of a run with these settings and this course, of which these are the
+    /// totals at the end. Without details in the totals there are no loaders and no cells. Takes
+    /// memory for the lists; an error means that it was refused.
     pub fn new(
         alloc: Global,
         settings: &Settings,

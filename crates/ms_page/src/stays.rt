@@ -5,7 +5,7 @@
 //!
 //! Kept true: the number of a column counts each loader of the end whose birth lies in it or in an
 //! earlier one. Takes memory for two numbers a column.
-ghost use Rattle.std.specs.Prelude.{◌≡◌, ◌<◌, ◌-◌, ◌^◌, ℕ, [], IfOk, length, sum};
+ghost use Rattle.std.specs.Prelude.{◌≡◌, ◌<◌, ◌-◌, ◌^◌, [], IfOk, length, sum};
 ghost use Rattle.std.specs.List.{All};
 ghost use Rattle.ms_page.specs.Stays.{AreBirths, stays_of, sums_of, with_birth};
 

@@ -1,5 +1,5 @@
-//! Sums over what nothing bounds. No metaspace has so many words that 64 bits don't hold them; a sum
-//! that they don't hold counts as the greatest number that they do.
+//! Sums over what nothing bounds. No metaspace has so many words that 64 bits don't hold them; a
+//! sum that they don't hold counts as the greatest number that they do.
 ghost use Rattle.std.specs.Prelude.{◌≡◌, ◌+◌};
 ghost use Rattle.ms_page.specs.Sums.{capped};
 

@@ -3,8 +3,8 @@ ghost use Rattle.std.specs.Prelude.{◌≡◌};
 ghost use Rattle.ms_page.specs.Tiles.{class_case, class_mark, committed_case, committed_mark};
 ghost use Rattle.ms_page.specs.Tiles.{loader_case, loader_mark, refused_case, refused_mark};
 ghost use Rattle.ms_page.specs.Tiles.{reserved_case, reserved_mark, used_case, used_mark};
-ghost use Rattle.ms_page.specs.Tiles.{is_idle, is_near, is_rising, tiles_of, wants_something, worse};
-ghost use Rattle.ms_page.specs.Tiles.{worst_of};
+ghost use Rattle.ms_page.specs.Tiles.{is_idle, is_near, is_rising, tiles_of, wants_something};
+ghost use Rattle.ms_page.specs.Tiles.{worse, worst_of};
 
 /// What the tiles stand on: sizes in words, nodes and lines as counts. This project's choice.
 #[derive(Clone, Copy, Debug)]
