@@ -302,7 +302,7 @@ fn push_loader(text: &mut String, replay: &Replay<'_>, loader: &Holding) -> Resu
 
 /// Appends the cell of a loader's name, which is empty where the input has none.
 fn push_name_cell(text: &mut String, replay: &Replay<'_>, loader: u16) -> Result<(), AllocError> {
-    text.push_str(r#"<td class="left">"#)?;
+    text.push_str(r#"<td class="left name">"#)?;
     if let Some(name) = replay.names.get(&loader) {
         push_name(replay.alloc, text, name)?;
     }
