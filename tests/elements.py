@@ -50,7 +50,7 @@ def shape(element):
 
 def root_of(page):
     """Reads a page, and fails the test where both readers see different trees."""
-    text = page.decode("ascii")
+    text = page.decode("utf-8")
     expect(text.startswith("<!DOCTYPE html>\n<html "), "a page begins", text[:80])
     reader = Reader()
     reader.feed(text)

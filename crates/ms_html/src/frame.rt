@@ -153,12 +153,20 @@ fn push_marked(text: &mut String, tiles: &Tiles, mark: Mark) -> Result<(), Alloc
         ("Loaders", tiles.loaders.mark()),
         ("Refused lines", tiles.refused.mark()),
     ];
-    let mut before = "";
+    let mut later = false;
     for (heading, its) in &marks {
         if *its == mark {
-            write!(text, "{before}{heading}")?;
-            before = ", ";
+            push_heading(text, later, heading)?;
+            later = true;
         }
     }
     text.push_str(".")
+}
+
+/// Appends a heading, after a comma where another stands before it.
+fn push_heading(text: &mut String, later: bool, heading: &str) -> Result<(), AllocError> {
+    if later {
+        text.push_str(", ")?;
+    }
+    text.push_str(heading)
 }

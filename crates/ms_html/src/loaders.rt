@@ -2,6 +2,9 @@
 //!
 //!     loader  kind      since line  until now    chunks  capacity ..  used and live of it  growth
 //!         12  standard       1,204    [  ####]        9  1.1 MB       [######==--]         +64.0 KB
+ghost use Rattle.std.specs.Prelude.{◌≡◌, ◌++◌, ◌⊎◌, OnOk, string_bytes};
+ghost use Rattle.ms_page.specs.Escape.{escaped};
+
 use crate::numbers::{Count, Grouped, NumberCell, Share, Size, WordsCell, narrow};
 use crate::replay::Replay;
 use ms_base::Kind;
@@ -299,15 +302,18 @@ fn push_loader(text: &mut String, replay: &Replay<'_>, loader: &Holding) -> Resu
 
 /// Appends the cell of a loader's name, which is empty where the input has none.
 fn push_name_cell(text: &mut String, replay: &Replay<'_>, loader: u16) -> Result<(), AllocError> {
-    text.push_str(r#"<td class="left">"#)?;
+    text.push_str(r#"<td class="left name">"#)?;
     if let Some(name) = replay.names.get(&loader) {
         push_name(replay.alloc, text, name)?;
     }
     text.push_str("</td>")
 }
 
-/// Appends a name as escaped text.
-fn push_name(alloc: Global, text: &mut String, name: &str) -> Result<(), AllocError> {
+/// Appends a name as escaped text: of the name itself nothing else ever stands in the page.
+fn push_name(alloc: Global, text: &mut String, name: &str) -> Result<(), AllocError>
+    ensures { OnOk result ((string_bytes text.new ≡ string_bytes text.old ++ escaped name.now)
+        ⊎ (string_bytes text.new ≡ string_bytes text.old)) }
+{
     let mut bytes = Vec::new(alloc);
     push_escaped(&mut bytes, name)?;
     match from_utf8(bytes.as_slice()) {

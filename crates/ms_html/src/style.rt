@@ -77,6 +77,7 @@ thead th{color:var(--soft);font-weight:400;border-bottom:1px solid var(--line)}
 tbody th{font-weight:400}
 .left,.usage tbody th,.usage thead tr:last-child th:first-child,.settings th{text-align:left}
 tbody tr:hover{background:var(--hair)}
+.name{white-space:normal;overflow-wrap:anywhere;min-width:110px}
 .z{color:var(--soft)}
 .apart{padding-left:40px}
 td b,th b{font-weight:400}
