@@ -1,7 +1,7 @@
 -- A log that is heard to its end is of no other release. Used by `convert`.
-use Rattle.std.proofs.Common.{ℕ, ◌+◌, List, [], ◌∷◌, Option, Some, None}
+use Rattle.std.proofs.Common.{ℕ, ◌+◌, List, [], ◌∷◌, Option, Some, None, Result, Ok, Err}
 use Rattle.std.specs.List.{AllByRecursion}
-use Rattle.std.specs.Prelude.{IfSome}
+use Rattle.std.specs.Prelude.{IfSome, OnOk}
 use Rattle.std.proofs.lemmas.List.Elements.{All-from_recursion}
 use Rattle.jvm_log.specs.declared.event.Said.{Said}
 use Rattle.jvm_log.specs.Hearing.{HearsLine, HearsLines, HearsText, trimmed}
@@ -30,3 +30,8 @@ pub known_is : (S : Type 0) (old new : S) (text : Option (List ℕ)) → IfSome 
     → IfSome text LogIsOfJdk17
 known_is S old new None heard = tt
 known_is S old new (Some text) heard = text_is S old new text heard
+
+-- What holds at all holds where a call succeeds.
+pub on_success : {T E : Type 0} (result : Result T E) (P : Type 0) → P → OnOk result P
+on_success (Ok value) P holds = holds
+on_success (Err error) P holds = tt

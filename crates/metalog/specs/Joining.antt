@@ -1,5 +1,5 @@
 -- Which blocks of a trace become one (this project's choice).
-use Rattle.std.specs.Prelude.{◌≡◌, ◌≢◌, ◌≤◌, ◌+◌, ◌*◌, ◌%◌, ◌^◌, ℕ, Bool, true, false, ◌&&◌, nat_eq, max, if◌then◌else◌}
+use Rattle.std.specs.Prelude.{◌≡◌, ◌≢◌, ◌≤◌, ◌+◌, ◌*◌, ◌%◌, ◌^◌, ℕ, zero, suc, Bool, true, false, ◌&&◌, nat_eq, max, if◌then◌else◌}
 use Rattle.std.specs.Prelude.{List, [], ◌∷◌, ◌++◌}
 use Rattle.std.specs.HashSet.{HashSet, contains}
 use Rattle.ms_base.specs.declared.kind.Space.{Space}
@@ -29,14 +29,17 @@ pub record Joins (most : ℕ) (first second joined : Command) : Type 0 where
 
 -- The address behind a block of so many words, and 0 where that of the block isn't known.
 abbrev pub behind : ℕ → ℕ → ℕ
-behind 0 words = 0
-behind address words = (address + taken words * 8) % 2 ^ 64
+behind zero words = 0
+behind (suc n) words = (suc n + taken words * 8) % 2 ^ 64
 
--- The same of the block that a line asks for; 0 where it asks for none.
+-- The same of the block that a command asks for; 0 where it asks for none.
+abbrev pub end_by : Command → ℕ → ℕ
+end_by (Asks (Alloc loader block words)) address = behind address words
+end_by (Asks (Calloc loader block words)) address = behind address words
+end_by _ address = 0
+
 abbrev pub end_of : Placed → ℕ
-end_of (record { command = Asks (Alloc loader block words); address = address }) = behind address words
-end_of (record { command = Asks (Calloc loader block words); address = address }) = behind address words
-end_of _ = 0
+end_of line = end_by line.command line.address
 
 -- The blocks of two lines join to what a command asks for: the second lies right behind the first.
 pub record Meets (most : ℕ) (first second : Placed) (joined : Command) : Type 0 where
@@ -47,8 +50,8 @@ pub record Meets (most : ℕ) (first second : Placed) (joined : Command) : Type 
 -- A trace joins to another, line by line: a line comes to the end, or the last one takes it in.
 pub data IsJoined (most : ℕ) : List Placed → List Placed → Type 0 where
   none : IsJoined most [] []
-  alone : {old new : List Placed} (line : Placed) → IsJoined most old new → IsJoined most (old ++ line ∷ []) (new ++ line ∷ [])
-  taken_in : {old new : List Placed} (last line : Placed) (joined : Command) → IsJoined most old (new ++ last ∷ [])
+  alone : (old new : List Placed) (line : Placed) → IsJoined most old new → IsJoined most (old ++ line ∷ []) (new ++ line ∷ [])
+  taken_in : (old new : List Placed) (last line : Placed) (joined : Command) → IsJoined most old (new ++ last ∷ [])
       → Meets most last line joined → IsJoined most (old ++ line ∷ []) (new ++ record last { command = joined } ∷ [])
 
 -- A set of blocks has one.
@@ -73,12 +76,13 @@ is_freed_in [] loader block = false
 is_freed_in (line ∷ lines) loader block = named_then loader block line.command (is_freed_in lines loader block)
 
 -- A line without its address where its block is freed later.
+abbrev pub asks_for : (ℕ → ℕ → Bool) → Command → Bool
+asks_for is_freed (Asks (Alloc loader block words)) = is_freed loader block
+asks_for is_freed (Asks (Calloc loader block words)) = is_freed loader block
+asks_for is_freed _ = false
+
 abbrev pub forgot : (ℕ → ℕ → Bool) → Placed → Placed
-forgot is_freed (record { command = Asks (Alloc loader block words); address = address }) =
-    record { command = Asks (Alloc loader block words); address = if is_freed loader block then 0 else address }
-forgot is_freed (record { command = Asks (Calloc loader block words); address = address }) =
-    record { command = Asks (Calloc loader block words); address = if is_freed loader block then 0 else address }
-forgot is_freed line = line
+forgot is_freed line = if asks_for is_freed line.command then record line { address = 0 } else line
 
 abbrev pub forgotten : List Placed → List Placed
 forgotten [] = []

@@ -5,8 +5,9 @@
 //!     alloc 3 8 5   at 0x10a0      ->   alloc 3 7 25
 //!
 //! A line whose block is freed later has no address here, so it joins nothing.
-ghost use Rattle.std.specs.Prelude.{◌≡◌, ◌≢◌, ◌≤◌, ◌++◌, ◌∷◌, [], ℕ, List, OnOk, IfOk, IfSome, IfNone};
+ghost use Rattle.std.specs.Prelude.{◌≡◌, ◌≢◌, ◌≤◌, ◌++◌, ◌∷◌, [], ℕ, List, IsTrue, IsFalse, OnOk, IfOk, IfSome, IfNone};
 ghost use Rattle.ms_base.specs.declared.kind.Space.{Space as SpaceOf};
+ghost use Rattle.ms_base.specs.declared.step.Step.TheVariants.{Free};
 ghost use Rattle.ms_trace.specs.declared.trace.Command.{Command as CommandOf};
 ghost use Rattle.ms_trace.specs.declared.trace.Command.TheVariants.{Step as Asks};
 ghost use Rattle.jvm_log.specs.declared.placed.Placed.{Placed as PlacedOf};
@@ -60,14 +61,30 @@ fn add(joined: &mut Vec<Placed>, line: Placed, most: u64) -> Result<(), AllocErr
     ensures { OnOk result ((lines : List PlacedOf) → IsJoined most lines joined.old.items
         → IsJoined most (lines ++ line ∷ []) joined.new.items) }
 {
-    if let Some(last) = joined.last_mut()
-        && let Some(command) = joining(*last, line, most)
-    {
-        last.command = command;
-        return Ok(());
+    if !take_in(joined, line, most) {
+        joined.push(line)?;
     }
-    joined.push(line)?;
     Ok(())
+}
+
+/// Has the last line take in another, where the two are joined, and returns whether they are.
+fn take_in(joined: &mut Vec<Placed>, line: Placed, most: u64) -> bool
+    ensures joined { IsTrue result → (lines : List PlacedOf) → IsJoined most lines joined.old.items
+        → IsJoined most (lines ++ line ∷ []) joined.new.items }
+    ensures unchanged { IsFalse result → joined.new ≡ joined.old }
+{
+    let Some(last) = joined.last().copied() else {
+        return false;
+    };
+    let Some(command) = joining(last, line, most) else {
+        return false;
+    };
+    let at = joined.len() - 1;
+    joined[at] = Placed {
+        command,
+        address: last.address,
+    };
+    true
 }
 
 /// Returns the command that asks for the blocks of two lines as one, if the second lies right behind
@@ -113,6 +130,17 @@ fn block_of(command: Command) -> Option<Asked>
             block,
             words,
         }),
+        _ => None,
+    }
+}
+
+/// Returns the loader and the number of the block that a command frees.
+fn freed_by(command: Command) -> Option<(u16, u32)>
+    ensures some { IfSome result (λ freed. command ≡ Asks (Free freed.0 freed.1)) }
+    ensures none { IfNone result ((loader block : ℕ) → command ≢ Asks (Free loader block)) }
+{
+    match command {
+        Command::Step(Step::Free { loader, block }) => Some((loader, block)),
         _ => None,
     }
 }
@@ -194,8 +222,8 @@ fn forget(freed: &mut HashSet<(u16, u32)>, line: Placed) -> Result<Placed, Alloc
     ensures freed { OnOk result ((loader block : ℕ) → has freed.new loader block
         ≡ named_then loader block line.command (has freed.old loader block)) }
 {
-    if let Command::Step(Step::Free { loader, block }) = line.command {
-        freed.insert((loader, block))?;
+    if let Some(block) = freed_by(line.command) {
+        freed.insert(block)?;
         return Ok(line);
     }
     match block_of(line.command) {

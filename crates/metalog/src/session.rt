@@ -44,7 +44,7 @@ fn convert<R: BufRead, W: Write, E: Write>(
     output: &mut W,
     errors: &mut E,
 ) -> Result<Vec<u8>, Failure>
-    ensures release { OnOk result (IfSome (R.remaining input.old) LogIsOfJdk17) }
+    ensures { OnOk result (IfSome (R.remaining input.old) LogIsOfJdk17) }
 {
     let mut conversion = Conversion::new(alloc, *options, output, errors)?;
     let lines = read_log(alloc, input, &mut conversion)?;
