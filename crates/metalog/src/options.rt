@@ -142,8 +142,8 @@ const VERSION: &str = "1.0.0 (proved with rattle-kit-13f logic dac8208d650f15bf)
 const ABOUT: &str = "Makes a trace for metarun of the log of a JVM's metaspace (JDK 17).
 
 Standard input has the log of a JVM that was started with
-  java \"-Xlog:metaspace*=trace,class+load=debug,class+loader+data=trace,class+unload=info:\\
-file=meta.log:uptime,tid,level,tags:filecount=0\" ..
+  java \"-Xlog:metaspace*=trace,class+loader+data=trace:file=meta.log:uptime,tid,level,tags:\\
+filecount=0\" ..
 Standard output gets the trace: each loader, and each block with its exact words.";
 
 /// The last words of the help.
@@ -152,8 +152,8 @@ const AFTER: &str =
 
 Exit status:
   0  the trace is written; or this help, or the version
-  1  nothing can be made of the log: none of its lines is of a loader, or one is of another release
-     than JDK 17, at which reading and writing end
+  1  no line of the log is of a loader, or one is of another release than JDK 17: nothing is read or
+     written after it
   2  the command line is refused; nothing was read
   3  memory is wanting
   5  standard input, standard output or the file of names failed
