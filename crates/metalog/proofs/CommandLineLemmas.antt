@@ -1,6 +1,6 @@
 -- The command line is one of which `clap` says what it finds and what it refuses; and what it finds where
 -- there is no option. Used by `options_of`.
-use Rattle.std.proofs.Common.{◌≡◌, ◌≤◌, ◌⊎◌, List, [], ◌∷◌, Some, None, true, refl, sym, ap, ◌∙◌, arith, inl, inr}
+use Rattle.std.proofs.Common.{◌≡◌, ◌≤◌, ◌⊎◌, List, [], ◌∷◌, None, true, refl, sym, ap, ◌∙◌, arith, inl, inr}
 use Rattle.std.proofs.Common.{codes, length, subst}
 use Rattle.std.specs.Prelude.{map, option_map}
 use Rattle.std.specs.Borrow.{Bor}

@@ -1,4 +1,4 @@
-use Rattle.std.proofs.Common.{◌≡◌, ◌++◌, ◌∷◌, [], List, ap, subst, sym, rules}
+use Rattle.std.proofs.Common.{◌≡◌, ◌++◌, ◌∷◌, [], List, subst, sym, rules}
 use Rattle.jvm_log.specs.declared.placed.Placed.{Placed}
 use Rattle.metalog.specs.Joining.{IsJoined, alone}
 use Rattle.metalog.proofs.joining.add.Goals as goal

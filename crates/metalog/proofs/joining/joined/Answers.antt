@@ -1,4 +1,4 @@
-use Rattle.std.proofs.Common.{◌≡◌, [], List, subst, sym}
+use Rattle.std.proofs.Common.{[], List, subst, sym}
 use Rattle.jvm_log.specs.declared.placed.Placed.{Placed}
 use Rattle.metalog.specs.Joining.{IsJoined, none}
 use Rattle.metalog.proofs.joining.joined.Goals as goal

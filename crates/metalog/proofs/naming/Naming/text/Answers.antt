@@ -1,4 +1,4 @@
-use Rattle.std.proofs.Common.{◌≡◌, ◌<◌, ◌++◌, ◌∙◌, ap, sym, take, length, rules}
+use Rattle.std.proofs.Common.{◌<◌, ◌++◌, ◌∙◌, ap, sym, take, length, rules}
 use Rattle.metalog.specs.Naming.{name_line, names_text, told_of}
 use Rattle.metalog.proofs.NamingLemmas.{names_next}
 use Rattle.metalog.proofs.naming.Naming.text.Goals as goal
