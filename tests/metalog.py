@@ -193,16 +193,32 @@ def lacking_logs(bench):
 
 
 def other_releases(bench):
-    """Lines of JDK 25 are told, the first of them with its line's number and then how many; so is that no request was read."""
+    """A log of JDK 25 is refused at its first arena, in whatever it comes: one line says so, and nothing goes out."""
     first, word, *rest = [at(1, f"Arena @{place(101)} (non-class arena): {text}") for text in (
         "born.", "requested 10 words.", f"returning block (@{place(0x1000)} word size 10) taken from arena, no wastage")]
-    ended = converted("".join([first, at(1, born(100)), word, *rest, told(1, 0x1000)]))
-    lines = ended.errors.decode().splitlines()
-    expect(ended.status == 0 and ended.output == b"new 0 boot\nreport\n", ended)
-    expect(lines[0].startswith("metalog: line 1: the log is of another release than JDK 17: what this arena does"), lines)
-    expect(any(line.startswith("metalog: 3 such lines: the log is of another release") for line in lines), lines)
-    expect(any("no line tells of a request" in line for line in lines), lines)
-    expect_trace("".join([*SMALL, word]), TRACE, warnings=[f"line {len(SMALL) + 1}: the log is of another release"])
+    added = at(1, f"Adding k: {place(0x9000)} java.lang.Object to loader data: {place(7)} of 'bootstrap'", "class,loader,data")
+    later = [first, at(1, born(100)), word, *rest, told(1, 0x1000)]
+    with tempfile.TemporaryDirectory() as folder:
+        names = os.path.join(folder, "names")
+        for text, line in (([added, *later], 2), (later, 1), (later[1:], 2), ([*SMALL, word], len(SMALL) + 1)):
+            for words in ((), ("--merge",), ("--names", names)):
+                ended = converted("".join(text), *words)
+                said = ended.errors.decode().splitlines()
+                expect(ended.status == 1 and ended.output == b"", line, words, ended)
+                expect(said[-1] == f"metalog: line {line}: the log is of another release than JDK 17", said)
+                expect(len(said) == (2 if text is not later and text[0] == later[1] else 1), said)
+        expect(not os.path.exists(names), "a file of names of no trace")
+
+
+def other_release_after_a_piece(bench):
+    """What went out before the first line of another release stays, and nothing comes after it."""
+    lines = [BEGIN, at(1, born(100)), *asked(1, 101, 2, 0x1000, 2)]
+    for number in range(1, 6000):
+        lines += [at(1, arena(101, "requested 2 words.")), at(1, arena(101, f"returning {place(0x1000 + 16 * number)}."))]
+    whole = converted("".join(lines)).output
+    ended = converted("".join([*lines, at(1, f"Arena @{place(101)} (class arena): born."), *lines[2:]]))
+    expect(ended.status == 1 and ended.output and whole.startswith(ended.output), ended.status, ended.output[-40:])
+    expect(ended.errors == f"metalog: line {len(lines) + 1}: the log is of another release than JDK 17\n".encode(), ended.errors)
 
 
 def a_loader_is_opened_once(bench):
@@ -279,7 +295,8 @@ def tests():
     yield Test("a log with lines of a megabyte becomes its trace", long_lines)
     yield Test("what is wrong with a log is told", wrong_logs)
     yield Test("a log that lacks lines is told", lacking_logs)
-    yield Test("a log of another release is told", other_releases)
+    yield Test("a log of another release is refused", other_releases)
+    yield Test("a log that goes on in another release is refused there", other_release_after_a_piece)
     yield Test("a loader whose kind is told late is opened once", a_loader_is_opened_once)
     yield Test("names of loaders are used again only once they are free", names_are_used_again)
     yield Test("blocks of a log join", blocks_join)

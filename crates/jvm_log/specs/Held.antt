@@ -1,5 +1,5 @@
 -- Lines that are held back, in their order: which commands are known among them.
-use Rattle.std.specs.Prelude.{◌≡◌, ◌≤◌, ◌-◌, ℕ, Bool, List, [], ◌∷◌, ◌++◌, Option, Some, None, flat_map, slice_get, slice_set}
+use Rattle.std.specs.Prelude.{◌≡◌, ◌≢◌, ◌≤◌, ◌<◌, ◌-◌, ℕ, Bool, List, [], ◌∷◌, ◌++◌, Option, Some, None, flat_map, slice_get, slice_set}
 use Rattle.ms_base.specs.declared.kind.Kind.{Kind}
 use Rattle.ms_base.specs.declared.kind.Kind.TheVariants.{Standard}
 use Rattle.ms_base.specs.declared.step.Step.TheVariants.{New}
@@ -30,10 +30,19 @@ waiting entries = flat_map known_of entries
 abbrev pub name_acts_of : List Entry → List (ℕ × Bool)
 name_acts_of entries = flat_map name_acts (waiting entries)
 
--- A line is put where its request passed the pool, if it did and the place is still waiting, and else at
--- the end.
+-- A line is added at the end.
+abbrev pub AddsLine : Placed → Held → Held → Type 0
+AddsLine line old new = new.entries.items ≡ old.entries.items ++ Whole line ∷ []
+
+-- A line is put at the place of that number while it waits there, and at the end where the place is gone
+-- or waits no more.
+pub record PutsAt (number : ℕ) (line : Placed) (old new : Held) : Type 0 where
+  pub waits : old.first ≤ number → slice_get old.entries.items (number - old.first) ≡ Some Asked
+      → new.entries.items ≡ slice_set old.entries.items (number - old.first) (Whole line)
+  pub gone : number < old.first → AddsLine line old new
+  pub other : old.first ≤ number → slice_get old.entries.items (number - old.first) ≢ Some Asked → AddsLine line old new
+
+-- A line is put where its request passed the pool, and at the end where it did not.
 abbrev pub PutsLine : Option ℕ → Placed → Held → Held → Type 0
-PutsLine None line old new = new.entries.items ≡ old.entries.items ++ Whole line ∷ []
-PutsLine (Some number) line old new =
-    old.first ≤ number → slice_get old.entries.items (number - old.first) ≡ Some Asked
-    → new.entries.items ≡ slice_set old.entries.items (number - old.first) (Whole line)
+PutsLine None line old new = AddsLine line old new
+PutsLine (Some number) line old new = PutsAt number line old new

@@ -81,7 +81,7 @@ pub enum Event {
     Collection,
     /// The JVM left out lines of its log.
     Dropped,
-    /// An arena has a name that none has in JDK 17.
+    /// An arena has a name that none has in JDK 17. No trace can be made of such a log.
     OtherRelease,
 }
 

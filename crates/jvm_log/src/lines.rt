@@ -31,6 +31,8 @@ pub enum Stop {
     Input,
     /// The listener has nowhere to put what it makes.
     Output,
+    /// The line of that number is of another release than JDK 17.
+    OtherRelease(u64),
     /// A growth was refused.
     OutOfMemory,
 }

@@ -101,17 +101,19 @@ impl Machine {
         Ok(late.or(trouble))
     }
 
-    /// Takes in that the log has begun, and returns what the first event shows to be wrong.
+    /// Takes in that the log has begun, and returns what the first event of the metaspace shows to
+    /// be wrong.
     fn begin(&mut self, event: Event) -> Option<Trouble>
         ensures no_line { waiting_in self.new ≡ waiting_in self.old }
         ensures names { names_in self.new ≡ names_in self.old }
     {
-        let is_late = !self.began && !is_a_beginning(event);
+        if self.began || !is_of_the_metaspace(event) {
+            return None;
+        }
         self.began = true;
-        if is_late {
-            Some(Trouble::BeginsLate)
-        } else {
-            None
+        match event {
+            Event::Begun => None,
+            _ => Some(Trouble::BeginsLate),
         }
     }
 
@@ -154,9 +156,8 @@ impl Machine {
             Event::Told { address } => self.tell(thread, address),
             Event::ClassAdded { address, kind } => self.add_class(address, kind),
             Event::Collection => self.collect(),
-            Event::Begun | Event::LoaderNamed { .. } => Ok(None),
+            Event::Begun | Event::LoaderNamed { .. } | Event::OtherRelease => Ok(None),
             Event::Dropped => Ok(Some(Trouble::Dropped)),
-            Event::OtherRelease => Ok(Some(Trouble::OtherRelease)),
         }
     }
 
@@ -516,7 +517,10 @@ fn keep(
     Ok(())
 }
 
-/// Checks whether a log may begin with an event: a log of another release lacks JDK 17's first line.
-fn is_a_beginning(event: Event) -> bool {
-    matches!(event, Event::Begun | Event::OtherRelease)
+/// Checks whether an event is the metaspace's own: those of classes may come before its first line.
+fn is_of_the_metaspace(event: Event) -> bool {
+    !matches!(
+        event,
+        Event::ClassAdded { .. } | Event::LoaderNamed { .. } | Event::Dropped
+    )
 }

@@ -28,9 +28,6 @@ pub enum Trouble {
     /// The kind of a loader isn't told.
     #[error("the kind of a loader is not told: the trace has it as standard")]
     UnknownKind,
-    /// An arena writes what none of JDK 17 does.
-    #[error("the log is of another release than JDK 17: what this arena does is not in the trace")]
-    OtherRelease,
     /// No request is told.
     #[error("no line tells of a request (level trace): the trace has loaders and no block")]
     NoRequest,

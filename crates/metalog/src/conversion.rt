@@ -27,11 +27,16 @@ pub struct Conversion<'a, W: Write, E: Write> {
 }
 
 impl<'a, W: Write, E: Write> Listener for Conversion<'a, W, E> {
-    ghost use Rattle.std.specs.Prelude.{⊤};
+    ghost use Rattle.metalog.specs.Release.{IsOfJdk17};
 
-    ghost hears = { λ _ _ _ _ _. ⊤ };
+    ghost hears = { λ _ _ _ said _. IsOfJdk17 said };
 
+    /// A line of another release ends the log: what the machine makes of the others is then no trace
+    /// of that JVM.
     fn hear(&mut self, number: u64, line: &[u8], said: Said) -> Result<(), Stop> {
+        if said.event == Event::OtherRelease {
+            return Err(Stop::OtherRelease(number));
+        }
         if let Some(trouble) = self.machine.take_in(said)? {
             self.warnings.tell(trouble, number, self.errors)?;
         }

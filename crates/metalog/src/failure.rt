@@ -10,6 +10,9 @@ use thiserror::Error;
 /// Why no trace comes out, or only a beginning of it. Its text is the line on standard error.
 #[derive(Debug, Drop, Error)]
 pub enum Failure {
+    /// The line of that number is of another release than JDK 17.
+    #[error("metalog: line {0}: the log is of another release than JDK 17")]
+    OtherRelease(u64),
     /// The log has no line that a trace can be made of.
     #[error("metalog: no line tells of a loader: the log is to be one of -Xlog:metaspace*=trace with uptime,tid,level,tags")]
     NoLoader,
@@ -33,7 +36,7 @@ impl Failure {
         ensures { result ≡ status_of self.now }
     {
         match self {
-            Failure::NoLoader => 1,
+            Failure::OtherRelease(_) | Failure::NoLoader => 1,
             Failure::OutOfMemory => 3,
             Failure::Input | Failure::Output | Failure::Names => 5,
         }
@@ -60,6 +63,7 @@ impl From<Stop> for Failure {
         match stop {
             Stop::Input => Failure::Input,
             Stop::Output => Failure::Output,
+            Stop::OtherRelease(line) => Failure::OtherRelease(line),
             Stop::OutOfMemory => Failure::OutOfMemory,
         }
     }

@@ -1,4 +1,7 @@
 //! The loaders of a trace, with what the log tells of each.
+ghost use Rattle.std.specs.Prelude.{◌≡◌, ◌++◌, ◌∷◌, [], IfOk, OnOk};
+ghost use Rattle.metalog.specs.Naming.{name_line, names_text, told_of};
+
 use jvm_log::{name_in, owner_in};
 use std::alloc::{AllocError, Global};
 use std::collections::HashMap;
@@ -11,16 +14,18 @@ const UNKNOWN: &str = "?";
 pub struct Naming {
     alloc: Global,
     /// The number of each, in the order of their lines.
-    numbers: Vec<u16>,
+    pub(crate) numbers: Vec<u16>,
     /// What is told of each, by how many came before it.
-    texts: HashMap<u64, Vec<u8>>,
+    pub(crate) texts: HashMap<u64, Vec<u8>>,
     /// How many came before the loader whose data lies at an address.
     births: HashMap<u64, u64>,
 }
 
 impl Naming {
     /// Makes a list of no loaders.
-    pub fn new(alloc: Global) -> Naming {
+    pub fn new(alloc: Global) -> Naming
+        ensures { result.numbers.items ≡ [] }
+    {
         Naming {
             alloc,
             numbers: Vec::new(alloc),
@@ -30,7 +35,10 @@ impl Naming {
     }
 
     /// Adds the loader of a `new` line.
-    pub fn open(&mut self, number: u16) -> Result<(), AllocError> {
+    pub fn open(&mut self, number: u16) -> Result<(), AllocError>
+        ensures last { OnOk result (self.new.numbers.items ≡ self.old.numbers.items ++ number ∷ []) }
+        ensures texts { self.new.texts ≡ self.old.texts }
+    {
         self.numbers.push(number)?;
         Ok(())
     }
@@ -70,20 +78,28 @@ impl Naming {
         Ok(())
     }
 
-    /// Gives a line for each loader: its number, a space, and what is told of it.
-    pub fn text(&self) -> Result<Vec<u8>, AllocError> {
+    /// Returns a line for each loader: its number, a space, and what is told of it.
+    pub fn text(&self) -> Result<Vec<u8>, AllocError>
+        ensures { IfOk result (λ text. text.items ≡ names_text self.now.texts.entries 0 self.now.numbers.items) }
+    {
         let mut text = Vec::new(self.alloc);
-        let mut birth: u64 = 0;
-        for number in &self.numbers {
-            let number = format!(in self.alloc; "{number} ")?;
-            text.extend_from_slice(number.as_bytes())?;
-            match self.texts.get(&birth) {
-                Some(told) => text.extend_from_slice(told.as_slice())?,
-                None => text.extend_from_slice(UNKNOWN.as_bytes())?,
-            }
-            text.extend_from_slice(b"\n".as_slice())?;
-            birth = birth.wrapping_add(1);
+        for birth in 0..self.numbers.len() {
+            self.add_line(&mut text, self.numbers[birth], birth as u64)?;
         }
         Ok(text)
+    }
+
+    /// Adds the line of the loader before which so many came.
+    fn add_line(&self, text: &mut Vec<u8>, number: u16, birth: u64) -> Result<(), AllocError>
+        ensures { OnOk result (text.new.items ≡ text.old.items
+            ++ name_line number (told_of self.now.texts.entries birth)) }
+    {
+        let number = format!(in self.alloc; "{number} ")?;
+        text.extend_from_slice(number.as_bytes())?;
+        match self.texts.get(&birth) {
+            Some(told) => text.extend_from_slice(told.as_slice())?,
+            None => text.extend_from_slice(UNKNOWN.as_bytes())?,
+        }
+        text.extend_from_slice(b"\n".as_slice())
     }
 }

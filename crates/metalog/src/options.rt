@@ -2,7 +2,14 @@
 //!
 //!     metalog --reports gc --merge   ->   Options { reports: Gc, merge: Some(128), names: None }
 //!
-//! `clap` reads the words and writes the texts of refusals and of the help.
+//! Kept true: what isn't asked for is the default. `clap` reads the words and writes the texts of
+//! refusals and of the help.
+ghost use Rattle.std.specs.Prelude.{◌≡◌, ◌≤◌, IfErr, IfOk, IsOkAnd, None, codes, false, length, map};
+ghost use Rattle.clap.specs.Words.{App, app_of, found_of, kind_of, rows_of, rule_of, with_rule};
+ghost use Rattle.metalog.specs.Asked.{AreAsked, AreRead, IsDefault, IsTold, ReadsMerge, ReadsReports};
+ghost use Rattle.metalog.specs.CommandLine.{AskToBeTold, IsCommandLine, IsReportRule, IsShown};
+ghost use Rattle.metalog.specs.CommandLine.{merge_rule, name_rule, named};
+
 use clap::builder::ValueParser;
 use clap::error::ErrorKind;
 use clap::{Arg, ArgMatches, Command, value_parser};
@@ -50,9 +57,15 @@ pub enum Refused {
     OutOfMemory,
 }
 
-/// Reads a command line, whose first word is the program's name. Takes memory. This project's
-/// choice.
-pub fn options_of<'a, S: AsStr>(alloc: Global, words: &'a [S]) -> Result<Options<'a>, Refused> {
+/// Reads a command line, whose first word is the program's name. `Told` comes where the first of the
+/// faults is a use of `--help` or of `--version`, `Usage` for an unknown or repeated option, a missing
+/// value, or one that isn't allowed. Takes memory. This project's choice.
+pub fn options_of<'a, S: AsStr>(alloc: Global, words: &'a [S]) -> Result<Options<'a>, Refused>
+    ensures default { length words.entry.now ≤ 1 → IsOkAnd result IsDefault }
+    ensures asked { IfOk result (AreAsked (map S.text words.entry.now)) }
+    ensures told { IfErr result (λ refused.
+        IsTold refused → AskToBeTold (map S.text words.entry.now)) }
+{
     if words.len() <= 1 {
         return Ok(Options::DEFAULT);
     }
@@ -67,7 +80,9 @@ pub fn options_of<'a, S: AsStr>(alloc: Global, words: &'a [S]) -> Result<Options
 }
 
 /// Returns what an error of the command line makes of it.
-fn reason_of(alloc: Global, error: &clap::Error) -> Refused {
+fn reason_of(alloc: Global, error: &clap::Error) -> Refused
+    ensures { IsTold result → IsShown (kind_of error.now) }
+{
     let Ok(text) = format!(in alloc; "{error}") else {
         return Refused::OutOfMemory;
     };
@@ -79,19 +94,43 @@ fn reason_of(alloc: Global, error: &clap::Error) -> Refused {
 }
 
 /// Collects what was chosen.
-fn chosen<'a>(matches: &ArgMatches<'a>) -> Options<'a> {
+fn chosen<'a>(matches: &ArgMatches<'a>) -> Options<'a>
+    ensures { AreRead (rows_of (found_of matches.now)) result }
+{
     Options {
         reports: reports_in(matches),
-        merge: matches.get_one::<u64>("merge"),
+        merge: merge_in(matches),
         names: matches.get_str("names"),
     }
 }
 
-/// Returns where reports are asked for: `clap` accepts no other word than the three.
-fn reports_in(matches: &ArgMatches) -> Reports {
+/// Returns up to how many words blocks are joined, if they are: `clap` accepts no number out of the
+/// range.
+fn merge_in(matches: &ArgMatches) -> Option<u64>
+    ensures { ReadsMerge (rows_of (found_of matches.now)) result }
+{
+    matches.get_one::<u64>("merge")
+}
+
+/// Returns where reports are asked for, at the end where they are not.
+fn reports_in(matches: &ArgMatches) -> Reports
+    ensures { ReadsReports (rows_of (found_of matches.now)) result }
+{
     match matches.get_str("reports") {
-        Some("gc") => Reports::Gc,
-        Some("none") => Reports::None,
+        Some(word) => reports_named(word),
+        None => Reports::End,
+    }
+}
+
+/// Returns where reports of that word stand: `clap` accepts no other than the three.
+fn reports_named(word: &str) -> Reports
+    ensures at_end { word.now ≡ codes "end" → result ≡ Reports.End }
+    ensures gc { word.now ≡ codes "gc" → result ≡ Reports.Gc }
+    ensures none { word.now ≡ codes "none" → result ≡ Reports.None }
+{
+    match word {
+        "gc" => Reports::Gc,
+        "none" => Reports::None,
         _ => Reports::End,
     }
 }
@@ -103,8 +142,8 @@ const VERSION: &str = "1.0.0 (proved with rattle-kit-13f logic dac8208d650f15bf)
 const ABOUT: &str = "Makes a trace for metarun of the log of a JVM's metaspace (JDK 17).
 
 Standard input has the log of a JVM that was started with
-  java \"-Xlog:metaspace*=trace,class+load=debug,class+loader+data=trace,class+unload=info:\\
-file=meta.log:uptime,tid,level,tags:filecount=0\" ..
+  java \"-Xlog:metaspace*=trace,class+loader+data=trace:file=meta.log:uptime,tid,level,tags:\\
+filecount=0\" ..
 Standard output gets the trace: each loader, and each block with its exact words.";
 
 /// The last words of the help.
@@ -113,7 +152,8 @@ const AFTER: &str =
 
 Exit status:
   0  the trace is written; or this help, or the version
-  1  nothing can be made of the log: no line of it tells of a loader
+  1  no line of the log is of a loader, or one is of another release than JDK 17: nothing is read or
+     written after it
   2  the command line is refused; nothing was read
   3  memory is wanting
   5  standard input, standard output or the file of names failed
@@ -122,19 +162,46 @@ Example:
   metalog < meta.log > app.trace && metarun < app.trace";
 
 /// Describes the command line.
-fn command<'a>(alloc: Global) -> Result<Command<'a>, AllocError> {
+fn command<'a>(alloc: Global) -> Result<Command<'a>, AllocError>
+    ensures { IfOk result (λ command. IsCommandLine (app_of command)) }
+{
+    let command = described(alloc);
+    let command = with(command, report_option(alloc));
+    let command = with(command, merge_option(alloc));
+    with(command, name_option(alloc))
+}
+
+/// Adds an option, where there was memory so far.
+fn with<'a>(
+    command: Result<Command<'a>, AllocError>,
+    option: Arg<'a>,
+) -> Result<Command<'a>, AllocError>
+    ensures { (app : App) → IfOk command.entry (λ before. app_of before ≡ app)
+        → option.entry.global ≡ false
+        → IfOk result (λ after. app_of after ≡ with_rule app (rule_of option.entry)) }
+{
+    match command {
+        Ok(command) => command.arg(option),
+        Err(error) => Err(error),
+    }
+}
+
+/// Describes the program.
+fn described<'a>(alloc: Global) -> Result<Command<'a>, AllocError>
+    ensures { IfOk result (λ command. app_of command ≡ named (codes "metalog")) }
+{
     Command::new(alloc, "metalog")
         .version(VERSION)
         .about(ABOUT)
         .after_help(AFTER)
-        .bin_name("metalog")?
-        .arg(report_option(alloc))?
-        .arg(merge_option(alloc))?
-        .arg(name_option(alloc))
+        .bin_name("metalog")
 }
 
 /// Describes `--reports`.
-fn report_option<'a>(alloc: Global) -> Arg<'a> {
+fn report_option<'a>(alloc: Global) -> Arg<'a>
+    ensures rule { IsReportRule (rule_of result) }
+    ensures own { result.global ≡ false }
+{
     let places = ["end", "gc", "none"].as_slice();
     Arg::new(alloc, "reports")
         .long("reports")
@@ -144,7 +211,10 @@ fn report_option<'a>(alloc: Global) -> Arg<'a> {
 }
 
 /// Describes `--merge`.
-fn merge_option<'a>(alloc: Global) -> Arg<'a> {
+fn merge_option<'a>(alloc: Global) -> Arg<'a>
+    ensures rule { rule_of result ≡ merge_rule }
+    ensures own { result.global ≡ false }
+{
     let words: ValueParser<'a> = value_parser!(u64).range(2..=1_048_576).into();
     Arg::new(alloc, "merge")
         .long("merge")
@@ -159,7 +229,10 @@ fn merge_option<'a>(alloc: Global) -> Arg<'a> {
 }
 
 /// Describes `--names`.
-fn name_option<'a>(alloc: Global) -> Arg<'a> {
+fn name_option<'a>(alloc: Global) -> Arg<'a>
+    ensures rule { rule_of result ≡ name_rule }
+    ensures own { result.global ≡ false }
+{
     Arg::new(alloc, "names")
         .long("names")
         .value_name("FILE")

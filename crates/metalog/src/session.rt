@@ -1,6 +1,7 @@
 //! A session: each line of the log is read, and what it says goes into a machine, which gives the
 //! lines of the trace. They are written as they come, or in the end where blocks are joined.
-ghost use Rattle.std.specs.Prelude.{◌≢◌, ◌≤◌};
+ghost use Rattle.std.specs.Prelude.{◌≡◌, ◌≢◌, ◌≤◌, IfSome, OnOk};
+ghost use Rattle.metalog.specs.Release.{LogIsOfJdk17};
 
 use crate::conversion::Conversion;
 use crate::failure::Failure;
@@ -11,8 +12,9 @@ use std::fs;
 use std::io::{BufRead, Write};
 use std::rt::Files;
 
-/// Reads a log and writes its trace; answers the exit status. Warnings go to `errors`.
-#[tactic(auto, using(crate::proofs::StatusLemmas::status_is_few, crate::proofs::StatusLemmas::status_is_no_usage))]
+/// Reads a log and writes its trace; answers the exit status. Warnings go to `errors`. Reading ends
+/// at the first line of another release than JDK 17, and nothing is written from there on.
+#[tactic(auto, using(crate::proofs::StatusLemmas::status_is_few, crate::proofs::StatusLemmas::status_is_no_usage, crate::proofs::StatusLemmas::status_is_no_success))]
 pub fn session<T: Files, R: BufRead, W: Write, E: Write>(
     rt: &T,
     alloc: Global,
@@ -23,25 +25,27 @@ pub fn session<T: Files, R: BufRead, W: Write, E: Write>(
 ) -> u8
     ensures no_usage { result ≢ 2 }
     ensures statuses { result ≤ 5 }
+    ensures release { result ≡ 0 → IfSome (R.remaining input.old) LogIsOfJdk17 }
 {
-    let ended = match convert(alloc, options, input, output, errors) {
-        Ok(names) => keep_names(rt, options, &names),
-        Err(failure) => Err(failure),
-    };
-    match ended {
-        Ok(()) => 0,
+    match convert(alloc, options, input, output, errors) {
+        Ok(names) => match keep_names(rt, options, &names) {
+            Ok(()) => 0,
+            Err(failure) => failure.tell(errors),
+        },
         Err(failure) => failure.tell(errors),
     }
 }
 
-/// Reads a log and writes its trace; answers the text of the file of names.
+/// Reads a log of JDK 17 and writes its trace; answers the text of the file of names.
 fn convert<R: BufRead, W: Write, E: Write>(
     alloc: Global,
     options: &Options,
     input: &mut R,
     output: &mut W,
     errors: &mut E,
-) -> Result<Vec<u8>, Failure> {
+) -> Result<Vec<u8>, Failure>
+    ensures { OnOk result (IfSome (R.remaining input.old) LogIsOfJdk17) }
+{
     let mut conversion = Conversion::new(alloc, *options, output, errors)?;
     let lines = read_log(alloc, input, &mut conversion)?;
     conversion.finish(lines)

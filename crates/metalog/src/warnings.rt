@@ -1,5 +1,8 @@
 //! What is wrong with a log, told on standard error: the first line of each kind at once, and how
 //! many there were in the end.
+ghost use Rattle.std.specs.Prelude.{◌≡◌, ◌≢◌, ◌<◌, ℕ, [], Some, IfSome, IfNone, OnOk, length, slice_get};
+ghost use Rattle.metalog.specs.Warnings.{Counts, IsKnown};
+
 use jvm_log::Trouble;
 use std::alloc::{AllocError, Global};
 use std::io::Write;
@@ -7,12 +10,15 @@ use std::io::Write;
 /// What was told so far.
 #[derive(Drop)]
 pub struct Warnings {
-    told: Vec<(Trouble, u64)>,
+    /// Each kind that was told, and how many lines it had.
+    pub(crate) told: Vec<(Trouble, u64)>,
 }
 
 impl Warnings {
     /// Makes a list of nothing.
-    pub fn new(alloc: Global) -> Warnings {
+    pub fn new(alloc: Global) -> Warnings
+        ensures { result.told.items ≡ [] }
+    {
         Warnings {
             told: Vec::new(alloc),
         }
@@ -24,17 +30,32 @@ impl Warnings {
         trouble: Trouble,
         line: u64,
         errors: &mut E,
-    ) -> Result<(), AllocError> {
-        for (known, count) in self.told.iter_mut() {
-            if *known == trouble {
-                *count = count.saturating_add(1);
-                return Ok(());
-            }
+    ) -> Result<(), AllocError>
+        ensures counted { OnOk result (Counts trouble self.old.told.items self.new.told.items) }
+        ensures once { IsKnown trouble self.old.told.items → errors.new ≡ errors.old }
+    {
+        if let Some(at) = self.place_of(trouble) {
+            self.told[at].1 = self.told[at].1.saturating_add(1);
+            return Ok(());
         }
         self.told.push((trouble, 1))?;
         // Whether the warning comes out changes nothing.
         let _ = writeln!(errors, "metalog: line {line}: {trouble}");
         Ok(())
+    }
+
+    /// Finds a kind among those that were told.
+    fn place_of(&self, trouble: Trouble) -> Option<usize>
+        ensures inside { IfSome result (λ at. at < length self.now.told.items) }
+        ensures found { IfSome result (λ at. (count : ℕ) × (slice_get self.now.told.items at ≡ Some (trouble, count))) }
+        ensures none { IfNone result (IsKnown trouble self.now.told.items → ⊥) }
+    {
+        for at in 0..self.told.len() {
+            if self.told[at].0 == trouble {
+                return Some(at);
+            }
+        }
+        None
     }
 
     /// Returns of which kind there were more.
