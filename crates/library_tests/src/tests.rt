@@ -1,9 +1,11 @@
 //! By subject, lowest first: sizes and refusals of the `base`, `nodes` and their granules, split
 //! `trees`, `free_blocks`, the `pool` and `arenas` over it, `loaders` and systems, `worked` rows of
 //! a system, `reports` and `traces` as texts, the pool behind a lock (`locked_pool`), the
-//! `used_meter`, `runs` by several workers, and their `meeting`. Each says what no clause does.
+//! `used_meter`, `runs` by several workers, their `meeting`, and `courses` of runs with their
+//! documents. Each says what no clause does.
 mod arenas;
 mod base;
+mod courses;
 mod free_blocks;
 mod loaders;
 mod locked_pool;

@@ -428,5 +428,7 @@ fn format<'a>(alloc: Global) -> Arg<'a>
         .long("format")
         .value_name("F")
         .value_parser(forms)
-        .help("Write text, one HTML page, or one JSON document; the latter two need --workers 1 [default: text]")
+        .help(
+            "Write text, one HTML page, or one JSON document; the latter two need --workers 1 [default: text]",
+        )
 }

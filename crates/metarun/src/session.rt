@@ -123,12 +123,7 @@ fn document_of(
 }
 
 /// Runs a trace by one worker, and gives the page that shows its course and its end, in this room.
-fn page_of(
-    alloc: Global,
-    options: &Options,
-    trace: &Trace,
-    room: String,
-) -> Result<String, Failure>
+fn page_of(alloc: Global, options: &Options, trace: &Trace, room: String) -> Result<String, Failure>
     requires few { length trace.now.lines < 2 ^ 32 }
     ensures err { IfErr result IsWant }
 {

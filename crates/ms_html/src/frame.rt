@@ -39,10 +39,10 @@ const FOOT: &str =
     "</main>\n<footer><p>A word is 8 bytes, a KB 1024 bytes, a MB 1024 KB. Sizes and shares are cut off after one digit. Written by metarun.</p></footer>\n</body>\n</html>\n";
 
 /// Writes the page of a replay with these settings, of which this is the course and these are the
-/// totals of the end, in the room of a text that is done with, which is emptied. The names are texts
-/// of the input for loaders; where there is any, the tables of loaders have a column of them, and
-/// each is escaped. Takes memory for the text and for the values that it shows; an error means that
-/// a growth was refused. This project's choice.
+/// totals of the end, in the room of a text that is done with, which is emptied. The names are
+/// texts of the input for loaders; where there is any, the tables of loaders have a column of them,
+/// and each is escaped. Takes memory for the text and for the values that it shows; an error means
+/// that a growth was refused. This project's choice.
 pub fn page(
     alloc: Global,
     room: String,

@@ -105,8 +105,8 @@ fn push_bars(text: &mut String, columns: &[Column], lane: Lane) -> Result<(), Al
     Ok(())
 }
 
-/// Appends the numbers of lines below the charts: at each quarter that of the first line of the column
-/// there, and at the end that of the last line. Few lines have the first and the last alone.
+/// Appends the numbers of lines below the charts: at each quarter that of the first line of the
+/// column there, and at the end that of the last line. Few lines have the first and the last alone.
 pub(crate) fn push_axis(text: &mut String, replay: &Replay<'_>) -> Result<(), AllocError> {
     let columns = replay.columns();
     text.push_str(r#"<svg class="axis" height="20" aria-hidden="true">"#)?;

@@ -12,8 +12,9 @@
 //! where a number stands, so it has no definition of its own. Kept true: the page has no script and
 //! asks nothing of a network; a browser that knows no style still reads every number. Of the input
 //! only names of loaders stand in it, escaped by `ms_page`. Apart because no value of a page needs
-//! its text. Stands on `ms_course`, `ms_loaders`, `ms_page` and `ms_report`. Memory is that of the
-//! text, of the picture's lists and of one name; nothing waits. The page is this project's choice.
+//! its text. Stands on `ms_course`, `ms_loaders`, `ms_page`, `ms_pool` and `ms_report`. Memory is
+//! that of the text, of the picture's lists and of one name; nothing waits. The page is this
+//! project's choice.
 #![tactic(auto)]
 
 mod charts;

@@ -1,7 +1,7 @@
 //! Who? The kinds of loaders, the largest loaders, and where there are more, all of them by name.
 //!
 //!     loader  kind      since line  until now    chunks  capacity ..  used and live of it  growth
-//!         12  standard       1,204    [  ####]        9  1.1 MB       [######==--]         +64.0 KB
+//!         12  standard       1,204    [  ####]        9  1.1 MB      [######==--]         +64.0 KB
 ghost use Rattle.std.specs.Prelude.{◌≡◌, ◌++◌, ◌⊎◌, OnOk, string_bytes};
 ghost use Rattle.ms_page.specs.Escape.{escaped};
 

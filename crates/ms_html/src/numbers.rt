@@ -4,8 +4,8 @@
 //!     size     0.7 KB     64.0 KB    10.0 MB
 //!     grouped  100        8,192      1,310,720
 //!
-//! A size is in KB of 1024 bytes below a MB, and else in MB, cut off after one digit, as in the full
-//! report. Each is a `Display`, so that a template names it where it stands. Takes no memory.
+//! A size is in KB of 1024 bytes below a MB, and else in MB, cut off after one digit, as in the
+//! full report. Each is a `Display`, so that a template names it where it stands. Takes no memory.
 use ms_page::scaled;
 use std::fmt;
 

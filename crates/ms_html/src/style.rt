@@ -1,8 +1,8 @@
 //! The style sheet: light and dark, 400 pixels wide and more, and paper.
 //!
-//! Colours are variables: one blue ramp for committed, used and live words and for the map, grey for
-//! reserved, green for loaders, amber for what is committed and free, red for limits and refusals.
-//! A mark is a word too, and no colour alone.
+//! Colours are variables: one blue ramp for committed, used and live words and for the map, grey
+//! for reserved, green for loaders, amber for what is committed and free, red for limits and
+//! refusals. A mark is a word too, and no colour alone.
 
 /// The style sheet of every page.
 pub(crate) const STYLE: &str =
