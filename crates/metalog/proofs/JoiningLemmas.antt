@@ -178,21 +178,20 @@ pub turn : (old lines : List Placed) (at next : ℕ) (read after : Placed) (had 
 turn old lines at next read after had has same within are freed reads forgets names =
     let less : next < length old = omega (arith, same, within) in
     let lines_are : lines ≡ take (suc next) old ++ forgotten (drop (suc next) old) =
-        subst (λ (n : ℕ). lines ≡ take n old ++ forgotten (drop n old)) same are in
+    subst (λ (n : ℕ). lines ≡ take n old ++ forgotten (drop n old)) same are in
     let freed_are : (loader block : ℕ) → had loader block ≡ is_freed_in (drop (suc next) old) loader block =
-        subst (λ (n : ℕ). (loader block : ℕ) → had loader block ≡ is_freed_in (drop n old) loader block) same freed in
+    subst (λ (n : ℕ). (loader block : ℕ) → had loader block ≡ is_freed_in (drop n old) loader block) same freed in
     let read_is : read ≡ get_or (take (suc next) old ++ forgotten (drop (suc next) old)) next read =
-        reads ∙ ap (λ (l : List Placed). get_or l next read) lines_are in
+    reads ∙ ap (λ (l : List Placed). get_or l next read) lines_are in
     let after_is : after ≡ forgot (is_freed_in (drop (suc next) old)) (get_or (take (suc next) old ++ forgotten (drop (suc next) old)) next read) =
-        forgets
-        ∙ ap (λ (b : Bool). if b then record read { address = 0 } else read)
-        (asks_for_same had (is_freed_in (drop (suc next) old)) read.command freed_are)
-        ∙ ap (forgot (is_freed_in (drop (suc next) old))) read_is in
-    (
+    forgets
+    ∙ ap (λ (b : Bool). if b then record read { address = 0 } else read)
+    (asks_for_same had (is_freed_in (drop (suc next) old)) read.command freed_are)
+    ∙ ap (forgot (is_freed_in (drop (suc next) old))) read_is in (
       ap (λ (l : List Placed). slice_set l next after) lines_are ∙ turned old next read after less after_is,
       omega (arith, less),
       λ loader block. known old next read loader block (had loader block) (has loader block) less (freed_are loader block)
-      (names loader block ∙ ap (λ (line : Placed). named_then loader block line.command (had loader block)) read_is),
+          (names loader block ∙ ap (λ (line : Placed). named_then loader block line.command (had loader block)) read_is),
     )
 
 -- The last line takes in another.
@@ -205,9 +204,9 @@ last_takes most lines items len last line command are count some is meets =
     let inside : at < length items = omega (arith, count, some) in
     let all : length items ≤ at + 1 = omega (arith, count, some) in
     let split : items ≡ take at items ++ last ∷ [] =
-        sym (take_all (at + 1) items all) ∙ take_more items at last inside
-        ∙ ap (λ (x : Placed). take at items ++ x ∷ []) (sym is) in
+    sym (take_all (at + 1) items all) ∙ take_more items at last inside
+    ∙ ap (λ (x : Placed). take at items ++ x ∷ []) (sym is) in
     let set : slice_set items at new ≡ take at items ++ new ∷ [] =
-        sym (take_all (at + 1) (slice_set items at new) (rw (length-set items at new) all)) ∙ take_more_set items at new inside in
+    sym (take_all (at + 1) (slice_set items at new) (rw (length-set items at new) all)) ∙ take_more_set items at new inside in
     subst (λ (l : List Placed). IsJoined most (lines ++ line ∷ []) l) (sym set)
     (taken_in lines (take at items) last line command (subst (λ (l : List Placed). IsJoined most lines l) split are) meets)
