@@ -38,6 +38,7 @@ end_by (Asks (Alloc loader block words)) address = behind address words
 end_by (Asks (Calloc loader block words)) address = behind address words
 end_by _ address = 0
 
+-- The same of a line.
 abbrev pub end_of : Placed → ℕ
 end_of line = end_by line.command line.address
 
@@ -54,14 +55,15 @@ pub data IsJoined (most : ℕ) : List Placed → List Placed → Type 0 where
   taken_in : (old new : List Placed) (last line : Placed) (joined : Command) → IsJoined most old (new ++ last ∷ [])
       → Meets most last line joined → IsJoined most (old ++ line ∷ []) (new ++ record last { command = joined } ∷ [])
 
--- A set of blocks has one.
+-- Two blocks are of one loader and have one number.
 abbrev pub same_block : ℕ × ℕ → ℕ × ℕ → Bool
 same_block one other = nat_eq one.0 other.0 && nat_eq one.1 other.1
 
+-- A set of blocks has that one.
 abbrev pub has : {S : Type 0} → HashSet (ℕ × ℕ) S → ℕ → ℕ → Bool
 has blocks loader block = contains same_block blocks (loader, block)
 
--- Whether the next line that names a block frees it: this command, or one that comes later.
+-- Whether the next command that names a block frees it: this one, or else what later ones do.
 abbrev pub named_then : ℕ → ℕ → Command → Bool → Bool
 named_then loader block (Asks (Free of number)) later =
     if nat_eq of loader && nat_eq number block then true else later
@@ -71,19 +73,22 @@ named_then loader block (Asks (Calloc of number words)) later =
     if nat_eq of loader && nat_eq number block then false else later
 named_then loader block _ later = later
 
+-- The same of lines: where none names the block, none frees it.
 abbrev pub is_freed_in : List Placed → ℕ → ℕ → Bool
 is_freed_in [] loader block = false
 is_freed_in (line ∷ lines) loader block = named_then loader block line.command (is_freed_in lines loader block)
 
--- A line without its address where its block is freed later.
+-- A command asks for a block that the test accepts.
 abbrev pub asks_for : (ℕ → ℕ → Bool) → Command → Bool
 asks_for is_freed (Asks (Alloc loader block words)) = is_freed loader block
 asks_for is_freed (Asks (Calloc loader block words)) = is_freed loader block
 asks_for is_freed _ = false
 
+-- A line without its address where its block is freed later.
 abbrev pub forgot : (ℕ → ℕ → Bool) → Placed → Placed
 forgot is_freed line = if asks_for is_freed line.command then record line { address = 0 } else line
 
+-- All lines so.
 abbrev pub forgotten : List Placed → List Placed
 forgotten [] = []
 forgotten (line ∷ lines) = forgot (is_freed_in lines) line ∷ forgotten lines

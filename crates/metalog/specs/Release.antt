@@ -10,14 +10,15 @@ use Rattle.jvm_log.specs.Reading.{said_in}
 abbrev pub IsOfJdk17 : Said → Type 0
 IsOfJdk17 said = said.event ≢ OtherRelease
 
+-- Nor does what is read of a line, which may be nothing.
 abbrev pub IsNoOther : Option Said → Type 0
 IsNoOther None = ⊤
 IsNoOther (Some said) = IsOfJdk17 said
 
--- Nor does a line with its newline.
+-- A line, with its newline, shows none.
 abbrev pub LineIsOfJdk17 : List ℕ → Type 0
 LineIsOfJdk17 line = IsNoOther (said_in (trimmed line))
 
--- Nor does any line of a log.
+-- No line of a log does.
 abbrev pub LogIsOfJdk17 : List ℕ → Type 0
 LogIsOfJdk17 text = (lines : List (List ℕ)) × AreLines text lines × All LineIsOfJdk17 lines
