@@ -246,13 +246,13 @@ def commands_of(text):
 
 
 def is_of_the_reader(command):
-    """Whether a command reads or writes a file that isn't in the repository."""
-    return any(not os.path.exists(os.path.join(ROOT, file)) for file in re.findall(r"[<>] *(\S+)", command))
+    """Whether a command reads a file that isn't in the repository."""
+    return any(not os.path.exists(os.path.join(ROOT, file)) for file in re.findall(r"< *(\S+)", command))
 
 
 def is_run(bench, command):
     """A command of README ends well over the built program, and prints something."""
-    line, _, given = command.partition("<")
+    line, _, given = command.partition(" > ")[0].partition("<")
     name, *words = shlex.split(line)
     expect(name == "./metarun", "no test runs", command)
     ended = bench.run(words, read(given.strip()).encode() if given else b"")
