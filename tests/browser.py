@@ -25,7 +25,7 @@ CELLS = {"-": "free, not committed", ".": "free, committed", "u": "lent, not com
          "O": "lent as a whole, committed"}
 CLASSES = {"-": "p-free", ".": "p-idle", "u": "p-lent", "o": "p-part", "O": "p-whole"}
 SQUARE = re.compile(r"M(\d+) (\d+)h1v1h-1z")
-MOST_BYTES, MOST_TIME = 400_000, 1.3
+MOST_BYTES, MOST_TIME = 400_000, 2
 ASKING_TAGS = ("script", "link", "img", "image", "iframe", "object", "embed", "base", "form", "a", "use")
 ASKING_ATTRIBUTES = ("src", "href", "style", "action", "data", "ping")
 SERVER_OPTIONS = ("--class-nodes", "4")

@@ -54,8 +54,9 @@ class Browser:
     def message(self, until):
         """Waits for the browser's next message."""
         while b"\0" not in self.rest:
-            ready, _, _ = select.select([self.answers], [], [], max(0, until - time.monotonic()))
-            expect(ready, "chromium doesn't answer")
+            waiting = select.poll()
+            waiting.register(self.answers, select.POLLIN)
+            expect(waiting.poll(1000 * max(0, until - time.monotonic())), "chromium doesn't answer")
             more = os.read(self.answers, 1 << 20)
             expect(more, "chromium ended")
             self.rest += more

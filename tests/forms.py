@@ -19,10 +19,10 @@ FORM = ("--format", "json")
 SCHEMA = json.loads(content_of("docs", "replay.schema.json"))
 MOST_COLUMNS = 512
 SPACES = ("non-class", "class")
-ALONE = b"metarun: --format json needs --workers 1\n"
+ALONE = b"metarun: --format html or json needs --workers 1\n"
 TRACE = b"new 1 standard\nalloc 1 1 10\nreport\n"
 FAULTY = b"new 1 standard\nnew 2 app\n"
-LINES, MOST_MEMORY, MOST_TIMES = 100000, 48 * MEGABYTE, 1.3
+LINES, MOST_MEMORY, MOST_TIMES = 100000, 48 * MEGABYTE, 1.6
 # A trace that has each sort of reply, of refusal and of line; blank lines and comments part lines that are answered alike.
 MANY = b"".join(line + b"\n" for line in (
     b"new 1 standard", b"new 2 hidden", b"# a comment", b"alloc 1 1 100", b"", b"calloc 1 2 30", b"alloc 2 1 9000",
@@ -295,7 +295,7 @@ def refuses_each_growth(bench):
 
 
 def long_traces_cost_little(bench):
-    """100,000 lines in bounded memory, and at most 1.3 times the processor time of the text with full reports."""
+    """100,000 lines in bounded memory, and at most 1.6 times the processor time of the text with full reports."""
     text = churn(LINES)
     runs = {}
     for words in (("--report", "full"), FORM):

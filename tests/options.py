@@ -34,7 +34,8 @@ REFUSED = (
 # words that are refused with this line alone
 REFUSED_IN_A_LINE = (
     (["--addresses", "--workers", "2"], b"metarun: --addresses needs --workers 1\n"),
-    (["--format", "json", "--workers", "2"], b"metarun: --format json needs --workers 1\n"),
+    (["--format", "json", "--workers", "2"], b"metarun: --format html or json needs --workers 1\n"),
+    (["--format", "html", "--workers", "2"], b"metarun: --format html or json needs --workers 1\n"),
     (["--format", "json", "--addresses", "--workers", "2"], b"metarun: --addresses needs --workers 1\n"),
     ([b"\xff"], b"metarun: the command line is no text\n"),
 )
@@ -70,7 +71,7 @@ PARTS_OF_HELP = (
     b"--report <R>",
     b"[default: basic] [possible values: basic, full]",
     b"--format <F>",
-    b"[default: text] [possible values: text, json]",
+    b"[default: text] [possible values: text, html, json]",
     b"--help",
     b"--version",
     b"Exit status:",
