@@ -3,6 +3,7 @@
 The report is that of a last line `report`, so it is of the state that the page shows. Sizes and shares are worked out here from
 the report's words. Where chromium is on the machine, it loads pages at 400 and at 1200 pixels, light and dark.
 """
+import os
 import re
 import tempfile
 
@@ -13,7 +14,8 @@ from examples import content_of, runs_of
 from jvm import CLASS_NODES, converted, stored
 from outputs import KINDS, NODE_WORDS, REFUSALS, answers_of, reports_of
 from program import OneProcessor
-from scripts import SERVER
+from scripts import NAMES, SERVER
+from workbench import ROOT
 
 HTML, FULL = ("--format", "html"), ("--report", "full")
 KB, MB = 128, 131072
@@ -28,7 +30,7 @@ SQUARE = re.compile(r"M(\d+) (\d+)h1v1h-1z")
 MOST_BYTES, MOST_TIME = 400_000, 2
 ASKING_TAGS = ("script", "link", "img", "image", "iframe", "object", "embed", "base", "form", "a", "use")
 ASKING_ATTRIBUTES = ("src", "href", "style", "action", "data", "ping")
-SERVER_OPTIONS = ("--class-nodes", "4")
+SERVER_OPTIONS = ("--names", os.path.join(ROOT, NAMES), "--class-nodes", "4")
 WIDTHS, SCHEMES = (400, 1200), ("light", "dark")
 
 

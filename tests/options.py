@@ -28,6 +28,9 @@ REFUSED = (
     (["--report", "short"], b"error: invalid value 'short' for '--report <R>'\n"),
     (["--format", "xml"], b"error: invalid value 'xml' for '--format <F>'\n"),
     (["--format"], b"error: a value is required for '--format <F>' but none was supplied\n"),
+    (["--names"], b"error: a value is required for '--names <FILE>' but none was supplied\n"),
+    (["--format", "html", "--names", "a", "--names", "a"],
+     b"error: the argument '--names <FILE>' cannot be used multiple times\n"),
     (["--nodes", "4", "--nodes", "4"], b"error: the argument '--nodes <N>' cannot be used multiple times\n"),
     (["--addresses", "--addresses"], b"error: the argument '--addresses' cannot be used multiple times\n"),
 )
@@ -37,6 +40,10 @@ REFUSED_IN_A_LINE = (
     (["--format", "json", "--workers", "2"], b"metarun: --format html or json needs --workers 1\n"),
     (["--format", "html", "--workers", "2"], b"metarun: --format html or json needs --workers 1\n"),
     (["--format", "json", "--addresses", "--workers", "2"], b"metarun: --addresses needs --workers 1\n"),
+    (["--names", "app.names"], b"metarun: --names needs --format html\n"),
+    (["--names=app.names", "--format=json"], b"metarun: --names needs --format html\n"),
+    (["--names", "app.names", "--format", "html", "--workers", "2"],
+     b"metarun: --format html or json needs --workers 1\n"),
     ([b"\xff"], b"metarun: the command line is no text\n"),
 )
 DEFAULT = {"policy": "balanced", "granule": "8192", "max granules": "8192", "nodes": "64", "class nodes": "0",
@@ -72,6 +79,7 @@ PARTS_OF_HELP = (
     b"[default: basic] [possible values: basic, full]",
     b"--format <F>",
     b"[default: text] [possible values: text, html, json]",
+    b"--names <FILE>",
     b"--help",
     b"--version",
     b"Exit status:",

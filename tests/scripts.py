@@ -11,6 +11,7 @@ from workbench import ROOT
 
 JVM = os.path.join(ROOT, "examples", "jvm")
 SERVER = os.path.join("examples", "jvm", "server.trace")
+NAMES = os.path.join("examples", "jvm", "server.names")
 ROUNDS, LEAKS = 8, 1
 CLASS_NODES = ("--class-nodes", "16")
 WORDS_A_MB, GRANULES_A_MB = 131072, 16

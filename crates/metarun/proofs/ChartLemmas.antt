@@ -7,7 +7,6 @@ use Rattle.ms_base.specs.declared.step.Reply.{Reply}
 use Rattle.ms_course.specs.Course.{ColumnsView, Shows}
 use Rattle.ms_course.specs.Standing.{standing_of}
 use Rattle.ms_course.specs.declared.column.Column.{Column}
-use Rattle.ms_course.specs.declared.moment.Asked.{Asked}
 use Rattle.ms_course.specs.declared.moment.Moment.{Moment}
 use Rattle.ms_course.specs.declared.standing.Standing.{Standing}
 use Rattle.ms_json.specs.Document.{DocumentView, Tells, document, no_answer}
@@ -18,17 +17,16 @@ use Rattle.ms_run.specs.Observing.{IsObserved, PutsAndSees}
 use Rattle.ms_run.specs.Seeing.{Sight, sight_of}
 use Rattle.ms_trace.specs.declared.trace.Line.{Line}
 use Rattle.ms_trace.specs.declared.trace.Trace.{Trace}
-use Rattle.metarun.specs.Charting.{Charts, asked_of, moment_of, moments_of}
+use Rattle.metarun.specs.Charting.{Charts, moment_by, moment_of, moments_of}
 use Rattle.metarun.specs.Session.{IsDocument}
 use Rattle.metarun.specs.declared.asked.Options.{Options}
 use Rattle.metarun.specs.declared.charting.Chart.{Chart}
 
--- The moment after a line, by its parts.
-pub moment_is : (line : Line) (reply : Reply) (state : Machine) (number : ℕ) (asked : Asked) (standing : Standing)
-    → number ≡ line.number → asked ≡ asked_of line.command → standing ≡ standing_of state
-    → moment_of (sight_of line reply state)
-    ≡ record { line = number; asked = asked; reply = reply; standing = standing }
-moment_is line reply state number asked standing same asks stands = rw (same, asks, stands) refl
+-- The moment after a line that was seen, where it is the line's and the metaspace stood so.
+pub moment_is : (line : Line) (reply : Reply) (state : Machine) (moment : Moment) (standing : Standing)
+    → moment ≡ moment_by line reply standing → standing ≡ standing_of state
+    → moment_of (sight_of line reply state) ≡ moment
+moment_is line reply state moment standing same stands = sym (same ∙ ap (moment_by line reply) stands)
 
 -- One line more is seen.
 pub charts_more : (first old new : ColumnsView) (before : List Sight) (sight : Sight) (moment : Moment)

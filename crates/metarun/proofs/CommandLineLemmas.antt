@@ -2,7 +2,7 @@
 -- where there is no option. Used by `options_of`.
 use Rattle.std.proofs.Common.{◌≡◌, ◌≤◌, ◌⊎◌, ℕ, List, [], ◌∷◌, Some, None, true, refl, sym, ap, ap₂, ◌∙◌, arith, inl, inr}
 use Rattle.std.proofs.Common.{codes, length, subst, Result, Ok, Err}
-use Rattle.std.specs.Prelude.{IfErr, IfOk, map}
+use Rattle.std.specs.Prelude.{IfErr, IfOk, map, option_map}
 use Rattle.std.specs.Borrow.{Bor}
 use Rattle.clap.specs.Words.{App, Row, Rule, Text, IsAmong, fault_of, first_of, is_simple, is_simple_and_free, matches_of}
 use Rattle.clap.specs.Words.{one_of}
@@ -13,7 +13,7 @@ use Rattle.clap.proofs.OnLiterals.{clap_on_literals}
 use Rattle.metarun.specs.declared.asked.Options.{Options}
 use Rattle.metarun.specs.declared.options.Refused.{Refused}
 use Rattle.metarun.specs.declared.options.Refused.TheVariants as refused
-use Rattle.metarun.specs.Asked.{AreAsked, AreRead, IsAllowed, IsDefault, IsTold, Says, SaysAlone}
+use Rattle.metarun.specs.Asked.{AreAsked, AreRead, IsAllowed, IsDefault, IsTold, Says, SaysWhy}
 use Rattle.metarun.specs.CommandLine.{AskToBeTold, Choices, IsCommandLine, IsShown, choice_rule, line_with}
 
 -- The command line with the words of its choices.
@@ -69,9 +69,10 @@ found_nowhere : {X : Type 0} (policies reports forms : Choices) (text : X → Te
     × (one_of (codes "addresses") (matches_of (line_of policies reports forms) (map text words)) ≡ Some (codes "false"))
     × (one_of (codes "max-lines") (matches_of (line_of policies reports forms) (map text words)) ≡ None)
     × (first_of (codes "format") (matches_of (line_of policies reports forms) (map text words)) ≡ None)
+    × (first_of (codes "names") (matches_of (line_of policies reports forms) (map text words)) ≡ None)
 unfolding clap_on_literals
-found_nowhere policies reports forms text [] few = (refl, refl, refl, refl, refl, refl, refl, refl, refl)
-found_nowhere policies reports forms text (name ∷ []) few = (refl, refl, refl, refl, refl, refl, refl, refl, refl)
+found_nowhere policies reports forms text [] few = (refl, refl, refl, refl, refl, refl, refl, refl, refl, refl)
+found_nowhere policies reports forms text (name ∷ []) few = (refl, refl, refl, refl, refl, refl, refl, refl, refl, refl)
 found_nowhere policies reports forms text (name ∷ word ∷ words) few = absurd (omega (arith, few))
 
 -- A value that is kept somewhere.
@@ -113,6 +114,7 @@ default_is_asked text words options few default allowed =
         detail = detail_unasked rows _ found.5 default.detail;
         written = form_unasked rows _ found.8 default.text;
         max_lines = number_unasked rows (codes "max-lines") 1 10000000 100000 _ found.7 default.max_lines;
+        names = ap (option_map (λ path. path.now)) default.names ∙ sym found.9;
       };
     }
 
@@ -123,14 +125,16 @@ says_no_help words line (refused.Help text) says told = absurd says
 says_no_help words line (refused.Usage text) says told = absurd told
 says_no_help words line refused.OutOfMemory says told = absurd told
 
--- So where several workers are asked for what one alone tells.
-pub alone_is_no_help : (words : List Text) (chosen : Result Options Refused) → IfErr chosen SaysAlone
+-- So where several workers are asked for what one alone tells, or names for another form than a page.
+pub alone_is_no_help : (words : List Text) (chosen : Result Options Refused) → IfErr chosen SaysWhy
     → IfErr chosen (λ refused. IsTold refused → AskToBeTold words)
 alone_is_no_help words (Ok options) says = tt
 alone_is_no_help words (Err refused) (inl says) =
     says_no_help words (codes "metarun: --addresses needs --workers 1\n") refused says
-alone_is_no_help words (Err refused) (inr says) =
+alone_is_no_help words (Err refused) (inr (inl says)) =
     says_no_help words (codes "metarun: --format html or json needs --workers 1\n") refused says
+alone_is_no_help words (Err refused) (inr (inr says)) =
+    says_no_help words (codes "metarun: --names needs --format html\n") refused says
 
 -- What was chosen from the matches is what the words ask for.
 pub chosen_is_asked : (app : App) (words : List Text) (rows : List Row) (chosen : Result Options Refused)

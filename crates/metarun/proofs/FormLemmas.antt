@@ -9,7 +9,7 @@ use Rattle.ms_run.specs.declared.fault.RunFault.TheVariants as run
 use Rattle.ms_trace.specs.Spelling.{ReadsAs, rises_above}
 use Rattle.ms_trace.specs.declared.trace.Line.{Line}
 use Rattle.ms_trace.specs.declared.trace.Trace.{Trace}
-use Rattle.metarun.specs.Failure.{Blames, IsSettled, IsWant, failure_of_running}
+use Rattle.metarun.specs.Failure.{Blames, IsPageless, IsSettled, IsWant, failure_of_running}
 use Rattle.metarun.specs.Session.{IsIn, IsOutput, IsWhole}
 use Rattle.metarun.specs.declared.asked.Form.{Form}
 use Rattle.metarun.specs.declared.asked.Form.TheVariants as form
@@ -50,6 +50,8 @@ want_blames limit (Some bytes) (Err failure.NoThread) want = tt
 want_blames limit (Some bytes) (Err (failure.Fault fault)) want = absurd want
 want_blames limit (Some bytes) (Err (failure.Unsettled opened gathered)) want = absurd want
 want_blames limit (Some bytes) (Err failure.Input) want = absurd want
+want_blames limit (Some bytes) (Err failure.NamesFile) want = absurd want
+want_blames limit (Some bytes) (Err (failure.Misnamed line)) want = absurd want
 want_blames limit (Some bytes) (Err failure.Output) want = absurd want
 
 pub want_settles : {S : Type 0} (given : Result S Failure) → IfErr given IsWant → IfErr given IsSettled
@@ -59,7 +61,34 @@ want_settles (Err failure.NoThread) want = tt
 want_settles (Err (failure.Fault fault)) want = absurd want
 want_settles (Err (failure.Unsettled opened gathered)) want = absurd want
 want_settles (Err failure.Input) want = absurd want
+want_settles (Err failure.NamesFile) want = absurd want
+want_settles (Err (failure.Misnamed line)) want = absurd want
 want_settles (Err failure.Output) want = absurd want
+
+-- Nor is a file of names.
+pub pageless_blames : {S : Type 0} (limit : ℕ) (old : Option (List ℕ)) (given : Result S Failure)
+    → IfErr given IsPageless → IfErr given (λ why. IfSome old (λ bytes. Blames limit bytes why))
+pageless_blames limit old (Ok written) pageless = tt
+pageless_blames limit None (Err why) pageless = tt
+pageless_blames limit (Some bytes) (Err failure.OutOfMemory) pageless = tt
+pageless_blames limit (Some bytes) (Err failure.NoThread) pageless = tt
+pageless_blames limit (Some bytes) (Err (failure.Fault fault)) pageless = absurd pageless
+pageless_blames limit (Some bytes) (Err (failure.Unsettled opened gathered)) pageless = absurd pageless
+pageless_blames limit (Some bytes) (Err failure.Input) pageless = absurd pageless
+pageless_blames limit (Some bytes) (Err failure.NamesFile) pageless = tt
+pageless_blames limit (Some bytes) (Err (failure.Misnamed line)) pageless = tt
+pageless_blames limit (Some bytes) (Err failure.Output) pageless = absurd pageless
+
+pub pageless_settles : {S : Type 0} (given : Result S Failure) → IfErr given IsPageless → IfErr given IsSettled
+pageless_settles (Ok written) pageless = tt
+pageless_settles (Err failure.OutOfMemory) pageless = tt
+pageless_settles (Err failure.NoThread) pageless = tt
+pageless_settles (Err (failure.Fault fault)) pageless = absurd pageless
+pageless_settles (Err (failure.Unsettled opened gathered)) pageless = absurd pageless
+pageless_settles (Err failure.Input) pageless = absurd pageless
+pageless_settles (Err failure.NamesFile) pageless = tt
+pageless_settles (Err (failure.Misnamed line)) pageless = tt
+pageless_settles (Err failure.Output) pageless = absurd pageless
 
 -- A replay that fails is in want.
 pub run_wants : (fault : RunFault) → IsWanting fault → IsWant (failure_of_running fault)

@@ -1,6 +1,6 @@
 -- What a command line may ask for (this project's choice).
 use Rattle.std.specs.Prelude.{◌≡◌, ◌≢◌, ◌≤◌, ◌⊎◌, ℕ, Bool, List, true, false, Some, None, codes, ⊤}
-use Rattle.std.specs.Prelude.{string_bytes}
+use Rattle.std.specs.Prelude.{option_map, string_bytes}
 use Rattle.std.specs.Str.Parse.{digits_value, without_leading_plus}
 use Rattle.clap.specs.Words.{App, IsUnsignedIn, Row, Text, first_of, matches_of, one_of}
 use Rattle.ms_base.specs.declared.policy.Policy.{Policy}
@@ -14,8 +14,8 @@ use Rattle.metarun.specs.declared.asked.Options.{Options}
 use Rattle.metarun.specs.declared.options.Refused.{Refused}
 use Rattle.metarun.specs.declared.options.Refused.TheVariants.{Help, OutOfMemory, Usage}
 
--- The numbers lie in their ranges, only one worker tells addresses, and a form other than text has
--- one worker.
+-- The numbers lie in their ranges, only one worker tells addresses, a form other than text has one
+-- worker, and names have a page.
 pub record IsAllowed (options : Options) : Type 0 where
   pub workers_some : 1 ≤ options.settings.workers
   pub workers_few : options.settings.workers ≤ 8
@@ -26,11 +26,12 @@ pub record IsAllowed (options : Options) : Type 0 where
   pub granules_some : 1 ≤ options.settings.max_granules
   pub granules_few : options.settings.max_granules ≤ 40960
   pub class_few : options.settings.class_nodes ≤ 16
+  pub names_shown : options.names ≢ None → options.form ≡ form.Html
   pub lines_some : 1 ≤ options.max_lines
   pub lines_few : options.max_lines ≤ 10000000
 
 -- Nothing was asked for: one worker, 64 nodes, 8192 granules, policy balanced, no class space, no
--- addresses, basic reports, text, 100000 lines.
+-- addresses, basic reports, text, 100000 lines, no names.
 pub record IsDefault (options : Options) : Type 0 where
   pub workers : options.settings.workers ≡ 1
   pub nodes : options.settings.nodes ≡ 64
@@ -41,6 +42,7 @@ pub record IsDefault (options : Options) : Type 0 where
   pub detail : options.detail ≡ Basic
   pub text : options.form ≡ form.Text
   pub max_lines : options.max_lines ≡ 100000
+  pub names : options.names ≡ None
 
 -- The number that a text writes in digits, after a plus or without one.
 abbrev pub number_of : Text → ℕ
@@ -89,6 +91,7 @@ pub record AreRead (rows : List Row) (options : Options) : Type 0 where
   pub detail : ReadsDetail rows options.detail
   pub written : ReadsForm rows options.form
   pub max_lines : ReadsNumber rows (codes "max-lines") 1 10000000 100000 options.max_lines
+  pub names : option_map (λ path. path.now) options.names ≡ first_of (codes "names") rows
 
 -- The options are allowed, and are those that the words of a command line ask for.
 pub record AreAsked (words : List Text) (options : Options) : Type 0 where
@@ -102,9 +105,12 @@ abbrev pub IsTold : Refused → Type 0
 IsTold (Help text) = ⊤
 IsTold _ = ⊥
 
--- The rows have addresses, or a form: what only one worker may be asked for.
-abbrev pub AskAlone : List Row → Type 0
-AskAlone rows = (one_of (codes "addresses") rows ≢ None) ⊎ (first_of (codes "format") rows ≢ None)
+-- The rows have addresses or a form, which only one worker may be asked for, or names, which only a
+-- page shows.
+abbrev pub AskMore : List Row → Type 0
+AskMore rows =
+    (one_of (codes "addresses") rows ≢ None)
+    ⊎ ((first_of (codes "format") rows ≢ None) ⊎ (first_of (codes "names") rows ≢ None))
 
 -- It has this line for standard error, memory aside.
 abbrev pub Says : List ℕ → Refused → Type 0
@@ -112,8 +118,10 @@ Says line (Help text) = ⊥
 Says line (Usage text) = string_bytes text ≡ line
 Says line OutOfMemory = ⊤
 
--- The line where several workers are asked for addresses, or for a form other than text.
-abbrev pub SaysAlone : Refused → Type 0
-SaysAlone refused =
+-- The line where several workers are asked for addresses, or for a form other than text, and where
+-- names are asked for that no page shows.
+abbrev pub SaysWhy : Refused → Type 0
+SaysWhy refused =
     Says (codes "metarun: --addresses needs --workers 1\n") refused
-    ⊎ Says (codes "metarun: --format html or json needs --workers 1\n") refused
+    ⊎ (Says (codes "metarun: --format html or json needs --workers 1\n") refused
+    ⊎ Says (codes "metarun: --names needs --format html\n") refused)

@@ -49,14 +49,18 @@ IsReportRule = IsChoiceRule (codes "report") (codes "basic" ∷ codes "full" ∷
 abbrev pub IsFormatRule : Rule → Type 0
 IsFormatRule = IsChoiceRule (codes "format") (codes "text" ∷ codes "html" ∷ codes "json" ∷ [])
 
+-- `--names FILE`.
+abbrev pub names_rule : Rule
+names_rule = record (new_rule (codes "names")) { long = Some (codes "names"); value_names = 1 }
+
 -- A program with a name and a version, which is told at `--version`; help is told at `--help`.
 abbrev pub named : Text → App
 named name = record { top = record (new_app name).top { has_version = true }; subs = [] }
 
--- The command line with its nine options.
+-- The command line with its ten options.
 abbrev pub line_with : Rule → Rule → Rule → App
 line_with policy report format =
-    with_rule (with_rule (with_rule (with_rule (with_rule (with_rule (with_rule (with_rule (with_rule
+    with_rule (with_rule (with_rule (with_rule (with_rule (with_rule (with_rule (with_rule (with_rule (with_rule
     (named (codes "metarun"))
     (number_rule (codes "workers") 1 8))
     (number_rule (codes "max-granules") 1 40960))
@@ -66,7 +70,8 @@ line_with policy report format =
     (number_rule (codes "class-nodes") 0 16))
     report)
     (number_rule (codes "max-lines") 1 10000000))
-    format
+    format)
+    names_rule
 
 pub record IsCommandLine (app : App) : Type 0 where
   pub policy : Rule

@@ -8,16 +8,20 @@ use Rattle.metarun.specs.declared.devices.ReadFault.TheVariants as read
 use Rattle.ms_run.specs.declared.fault.RunFault.{RunFault}
 use Rattle.ms_run.specs.declared.fault.RunFault.TheVariants as run
 use Rattle.metarun.specs.declared.failure.Failure.{Failure}
-use Rattle.metarun.specs.declared.failure.Failure.TheVariants.{Fault, OutOfMemory, NoThread, Unsettled, Input, Output}
+use Rattle.metarun.specs.declared.failure.Failure.TheVariants.{Fault, OutOfMemory, NoThread, Unsettled, Input, NamesFile}
+use Rattle.metarun.specs.declared.failure.Failure.TheVariants.{Misnamed, Output}
 
 -- The exit status: 1 for a faulty trace, 3 for want of memory or of a thread, 4 for accounts left
--- open at a phase's end, 5 for a device.
+-- open at a phase's end, 5 for a device, or for a file of names that can't be read or doesn't fit the
+-- trace.
 abbrev pub status_of : Failure → ℕ
 status_of (Fault fault) = 1
 status_of OutOfMemory = 3
 status_of NoThread = 3
 status_of (Unsettled opened gathered) = 4
 status_of Input = 5
+status_of NamesFile = 5
+status_of (Misnamed line) = 5
 status_of Output = 5
 
 -- What a fault of reading or of parsing makes of a session.
@@ -45,6 +49,12 @@ abbrev pub IsWant : Failure → Type 0
 IsWant OutOfMemory = ⊤
 IsWant NoThread = ⊤
 IsWant _ = ⊥
+
+-- Or the file of names can't be read, or doesn't fit the trace.
+abbrev pub IsPageless : Failure → Type 0
+IsPageless NamesFile = ⊤
+IsPageless (Misnamed line) = ⊤
+IsPageless failure = IsWant failure
 
 -- No accounts were left open.
 abbrev pub IsSettled : Failure → Type 0

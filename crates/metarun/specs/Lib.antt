@@ -5,3 +5,4 @@ pub mod CommandLine
 pub mod Start
 pub mod Charting
 pub mod Watching
+pub mod Naming

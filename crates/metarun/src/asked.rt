@@ -15,29 +15,32 @@ pub enum Form {
     Json,
 }
 
-/// The options of a run: its settings, whether an accepted `alloc` tells where its block starts, how
-/// much a report tells, in which form answers are written, and how many lines a trace may have. This
-/// project's choice.
+/// The options of a run: its settings, whether the reply to an accepted `alloc` has its block's start, how
+/// much a report shows, in which form answers are written, how many lines a trace may have, and which
+/// file names its loaders. This project's choice.
 #[derive(Clone, Copy)]
-pub struct Options {
+pub struct Options<'a> {
     pub settings: Settings,
     pub addresses: bool,
     pub detail: Detail,
     pub form: Form,
     /// The most lines that a trace may have, 1 to 10000000.
     pub max_lines: u32,
+    /// The file that says what the loaders are; a page alone shows it.
+    pub names: Option<&'a str>,
     pub ghost lines_some: { 1 ≤ max_lines },
     pub ghost lines_few: { max_lines ≤ 10000000 },
 }
 
-impl Options {
+impl Options<'_> {
     /// What `metarun` runs with where no option is given: the default settings, no addresses, basic
-    /// reports, text, and traces of at most 100000 lines.
-    pub const DEFAULT: Options = Options {
+    /// reports, text, traces of at most 100000 lines, and no names.
+    pub const DEFAULT: Options<'static> = Options {
         settings: Settings::DEFAULT,
         addresses: false,
         detail: Detail::Basic,
         form: Form::Text,
         max_lines: 100_000,
+        names: None,
     };
 }

@@ -4,7 +4,7 @@
 //! the replay nor the columns know the other. Only `Chart::new` takes memory; nothing waits.
 ghost use Rattle.std.specs.Prelude.{◌≡◌, [], IfOk};
 ghost use Rattle.ms_course.specs.Course.{Shows};
-ghost use Rattle.metarun.specs.Charting.{Charts, asked_of};
+ghost use Rattle.metarun.specs.Charting.{Charts, asked_of, moment_by};
 
 use ms_base::Reply;
 use ms_course::{Asked, Columns, Moment, Standing};
@@ -43,18 +43,25 @@ impl Observer for Chart {
         standing: &Standing,
         _system: &System,
     ) -> Result<(), AllocError> {
-        self.columns.push(Moment {
-            line: line.number(),
-            asked: asked_in(line),
-            reply: *reply,
-            standing: *standing,
-        });
+        self.columns.push(&moment_after(line, reply, standing));
         Ok(())
     }
 }
 
+/// Returns the moment after a line that was answered so and left the metaspace so.
+pub(crate) fn moment_after(line: &Line, reply: &Reply, standing: &Standing) -> Moment
+    ensures { result ≡ moment_by line.now reply.now standing.now }
+{
+    Moment {
+        line: line.number(),
+        asked: asked_in(line),
+        reply: *reply,
+        standing: *standing,
+    }
+}
+
 /// Names what a line asks as a course does.
-pub(crate) fn asked_in(line: &Line) -> Asked
+fn asked_in(line: &Line) -> Asked
     ensures { result ≡ asked_of line.now.command }
 {
     match line.command() {

@@ -27,13 +27,19 @@ pub enum Failure {
     /// The input's device answered an error.
     #[error("metarun: input failed")]
     Input,
+    /// The file of names can't be read, or isn't UTF-8.
+    #[error("metarun: the file of names can't be read")]
+    NamesFile,
+    /// The file of names doesn't fit the trace from this line of it on.
+    #[error("metarun: names line {line}: not the next loader of the trace")]
+    Misnamed { line: u32 },
     /// The output's device answered an error, or took nothing.
     #[error("metarun: output failed")]
     Output,
 }
 
 impl Failure {
-    /// Tells the exit status.
+    /// Returns the exit status.
     pub fn status(&self) -> u8
         ensures { result ≡ status_of self.now }
     {
@@ -41,11 +47,11 @@ impl Failure {
             Failure::Fault(_) => 1,
             Failure::OutOfMemory | Failure::NoThread => 3,
             Failure::Unsettled { .. } => 4,
-            Failure::Input | Failure::Output => 5,
+            Failure::Input | Failure::NamesFile | Failure::Misnamed { .. } | Failure::Output => 5,
         }
     }
 
-    /// Writes its line on `errors`, and tells the exit status. Whether the line comes out changes
+    /// Writes its line on `errors`, and returns the exit status. Whether the line comes out changes
     /// no status.
     pub fn tell<E: Write>(&self, errors: &mut E) -> u8
         ensures { result ≡ status_of self.now }

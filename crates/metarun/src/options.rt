@@ -1,6 +1,6 @@
 //! What a run is asked to be, and the command line that asks for it.
 //!
-//!     metarun --max-granules 1 --addresses   ->   Options { settings, addresses, detail, form }
+//!     metarun --max-granules 1 --addresses   ->   Options { settings, addresses, detail, form, .. }
 //!
 //! Kept true: what is accepted lies within the ranges that `Settings` has, and what is not asked
 //! for is the default. `clap` reads the words and writes the texts of refusals and of the help.
@@ -8,15 +8,15 @@
 ghost use Rattle.std.specs.Prelude.{◌≡◌, ◌≢◌, ◌≤◌, ◌<◌, ◌^◌, ℕ, IfOk, IfErr, IsOkAnd, None, Some};
 ghost use Rattle.std.specs.Prelude.{codes};
 ghost use Rattle.std.specs.Str.Parse.{IsNumeral, without_leading_plus};
-ghost use Rattle.std.specs.Prelude.{length, map, false, IsTrue, ◌↔◌};
-ghost use Rattle.clap.specs.Words.{App, Text, app_of, found_of, kind_of, new_rule, one_of, rows_of};
+ghost use Rattle.std.specs.Prelude.{length, map, option_map, false, IsTrue, ◌↔◌};
+ghost use Rattle.clap.specs.Words.{App, Text, app_of, first_of, found_of, kind_of, new_rule, one_of, rows_of};
 ghost use Rattle.clap.specs.Words.{rule_of, with_rule};
-ghost use Rattle.metarun.specs.Asked.{IsAllowed, IsDefault, IsTold, AreRead, AreAsked, AskAlone};
+ghost use Rattle.metarun.specs.Asked.{IsAllowed, IsDefault, IsTold, AreRead, AreAsked, AskMore};
 ghost use Rattle.metarun.specs.Asked.{ReadsDetail, ReadsFlag, ReadsForm, ReadsNumber, ReadsPolicy};
-ghost use Rattle.metarun.specs.Asked.{Says, SaysAlone, number_of};
+ghost use Rattle.metarun.specs.Asked.{Says, SaysWhy, number_of};
 ghost use Rattle.metarun.specs.CommandLine.{IsCommandLine, IsShown, AskToBeTold, IsPolicyRule};
 ghost use Rattle.metarun.specs.CommandLine.{IsFormatRule, IsReportRule};
-ghost use Rattle.metarun.specs.CommandLine.{number_rule, addresses_rule, named};
+ghost use Rattle.metarun.specs.CommandLine.{number_rule, addresses_rule, names_rule, named};
 
 use crate::asked::{Form, Options};
 use clap::builder::ValueParser;
@@ -27,7 +27,7 @@ use ms_report::Detail;
 use std::alloc::{AllocError, Global};
 use std::convert::AsStr;
 
-/// Why a command line gives no options.
+/// Why there are no options.
 #[derive(Drop)]
 pub enum Refused {
     /// Help or the version was asked for; this is its text, for standard output.
@@ -42,9 +42,10 @@ pub enum Refused {
 /// 2048 under policy aggressive; nodes count 1048576 words each. `Help` comes where the first of
 /// the faults is a use of `--help` or of `--version`, `Usage` for an unknown or repeated option, a
 /// missing value, or one out of its range, and where more than one worker is asked for blocks'
-/// addresses, since a schedule decides them, or for a form other than text, which tells the states
-/// that the lines lead to one after the other. Takes memory. This project's choice.
-pub fn options_of<'a, S: AsStr>(alloc: Global, words: &'a [S]) -> Result<Options, Refused>
+/// addresses, since a schedule decides them, or for a form other than text, which shows the states
+/// that the lines lead to one after the other, and where names are asked for that no page shows.
+/// Takes memory. This project's choice.
+pub fn options_of<'a, S: AsStr>(alloc: Global, words: &'a [S]) -> Result<Options<'a>, Refused>
     ensures allowed { IfOk result IsAllowed }
     ensures default { length words.entry.now ≤ 1 → IsOkAnd result IsDefault }
     ensures asked { IfOk result (AreAsked (map S.text words.entry.now)) }
@@ -64,7 +65,7 @@ pub fn options_of<'a, S: AsStr>(alloc: Global, words: &'a [S]) -> Result<Options
     }
 }
 
-/// Tells what an error of the command line makes of it.
+/// Returns what comes of a command line with this error.
 fn reason_of(alloc: Global, error: &clap::Error) -> Refused
     ensures { IsTold result → IsShown (kind_of error.now) }
 {
@@ -84,6 +85,9 @@ const ADDRESSES_ALONE: &str = "metarun: --addresses needs --workers 1\n";
 /// The line where a page or a document is.
 const FORM_ALONE: &str = "metarun: --format html or json needs --workers 1\n";
 
+/// The line where names are asked for, and no page.
+const NAMES_SHOWN: &str = "metarun: --names needs --format html\n";
+
 /// Refuses a command line with this line for standard error.
 fn refused_with(alloc: Global, line: &str) -> Refused
     ensures { Says line.now result }
@@ -94,12 +98,13 @@ fn refused_with(alloc: Global, line: &str) -> Refused
     }
 }
 
-/// Collects what was chosen. Only one worker may tell addresses, or write another form than text.
-fn chosen(alloc: Global, matches: &ArgMatches) -> Result<Options, Refused>
+/// Collects what was chosen. Only one worker may show addresses, or write another form than text, and
+/// only a page shows names.
+fn chosen<'a>(alloc: Global, matches: &ArgMatches<'a>) -> Result<Options<'a>, Refused>
     ensures allowed { IfOk result IsAllowed }
     ensures read { IfOk result (AreRead (rows_of (found_of matches.now))) }
-    ensures refused { IfErr result SaysAlone }
-    ensures many { IfErr result (λ refused. AskAlone (rows_of (found_of matches.now))) }
+    ensures refused { IfErr result SaysWhy }
+    ensures many { IfErr result (λ refused. AskMore (rows_of (found_of matches.now))) }
 {
     let workers = number_in(matches, "workers", 1, 8, 1) as u32;
     let addresses = flag_in(matches, "addresses");
@@ -109,6 +114,10 @@ fn chosen(alloc: Global, matches: &ArgMatches) -> Result<Options, Refused>
     let form = form_in(matches);
     if is_other(form) && workers > 1 {
         return Err(refused_with(alloc, FORM_ALONE));
+    }
+    let names = names_in(matches);
+    if names.is_some() && !shows_names(form) {
+        return Err(refused_with(alloc, NAMES_SHOWN));
     }
     Ok(Options {
         settings: Settings {
@@ -122,6 +131,7 @@ fn chosen(alloc: Global, matches: &ArgMatches) -> Result<Options, Refused>
         detail: detail_in(matches),
         form,
         max_lines: number_in(matches, "max-lines", 1, 10_000_000, 100_000) as u32,
+        names,
     })
 }
 
@@ -150,14 +160,14 @@ fn number_given(matches: &ArgMatches, id: &str) -> Option<u64>
     matches.get_one::<u64>(id)
 }
 
-/// Tells whether a flag was given.
+/// Returns whether a flag was given.
 fn flag_in(matches: &ArgMatches, id: &str) -> bool
     ensures { ReadsFlag (rows_of (found_of matches.now)) id.now result }
 {
     matches.get_flag(id)
 }
 
-/// Tells the policy that was given, or the default.
+/// Returns the policy that was given, or the default.
 fn policy_in(matches: &ArgMatches) -> Policy
     ensures { ReadsPolicy (rows_of (found_of matches.now)) result }
 {
@@ -167,7 +177,7 @@ fn policy_in(matches: &ArgMatches) -> Policy
     }
 }
 
-/// Tells the policy of that word: `clap` accepts no other than the three.
+/// Returns the policy of that word: `clap` accepts no other than the three.
 fn policy_named(word: &str) -> Policy
     ensures aggressive { word.now ≡ codes "aggressive" → result ≡ Policy.Aggressive }
     ensures none { word.now ≡ codes "none" → result ≡ Policy.None }
@@ -180,7 +190,7 @@ fn policy_named(word: &str) -> Policy
     }
 }
 
-/// Tells how much a report shall tell, or the default.
+/// Returns how much a report shall show, or the default.
 fn detail_in(matches: &ArgMatches) -> Detail
     ensures { ReadsDetail (rows_of (found_of matches.now)) result }
 {
@@ -190,7 +200,7 @@ fn detail_in(matches: &ArgMatches) -> Detail
     }
 }
 
-/// Tells the detail of that word: `clap` accepts no other than the two.
+/// Returns the detail of that word: `clap` accepts no other than the two.
 fn detail_named(word: &str) -> Detail
     ensures full { word.now ≡ codes "full" → result ≡ Detail.Full }
     ensures basic { word.now ≡ codes "basic" → result ≡ Detail.Basic }
@@ -234,6 +244,24 @@ fn is_other(form: Form) -> bool
     }
 }
 
+/// Returns the file of names that was given, where there is one.
+fn names_in<'a>(matches: &ArgMatches<'a>) -> Option<&'a str>
+    ensures { option_map (λ path. path.now) result
+        ≡ first_of (codes "names") (rows_of (found_of matches.now)) }
+{
+    matches.get_str("names")
+}
+
+/// Returns whether a form shows what loaders are called.
+fn shows_names(form: Form) -> bool
+    ensures { IsTrue result ↔ (form ≡ Form.Html) }
+{
+    match form {
+        Form::Html => true,
+        Form::Text | Form::Json => false,
+    }
+}
+
 /// The version, and the toolchain that all is proved with.
 const VERSION: &str = "1.0.0 (proved with rattle-kit-13f logic dac8208d650f15bf)";
 
@@ -253,7 +281,7 @@ const AFTER: &str = "Exit status:
   2  the command line is refused; nothing was read
   3  memory or a thread is wanting in the run itself
   4  accounts were left open between phases, which never comes
-  5  standard input or standard output failed
+  5  standard input or standard output failed, or the file of names did, or it doesn't fit the trace
 
 Example:
   printf 'new 1 standard\\nalloc 1 1 10\\nreport\\n' | metarun --addresses";
@@ -271,7 +299,8 @@ fn command<'a>(alloc: Global) -> Result<Command<'a>, AllocError>
     let command = with(command, class_nodes(alloc));
     let command = with(command, report(alloc));
     let command = with(command, max_lines(alloc));
-    with(command, format(alloc))
+    let command = with(command, format(alloc));
+    with(command, names(alloc))
 }
 
 /// Adds an option, where there was memory so far.
@@ -430,5 +459,18 @@ fn format<'a>(alloc: Global) -> Arg<'a>
         .value_parser(forms)
         .help(
             "Write text, one HTML page, or one JSON document; the latter two need --workers 1 [default: text]",
+        )
+}
+
+/// Describes `--names`.
+fn names<'a>(alloc: Global) -> Arg<'a>
+    ensures rule { rule_of result ≡ names_rule }
+    ensures own { result.global ≡ false }
+{
+    Arg::new(alloc, "names")
+        .long("names")
+        .value_name("FILE")
+        .help(
+            "Show on a page what FILE says of each 'new' line: the loader's number, a space, a text",
         )
 }

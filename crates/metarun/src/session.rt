@@ -4,13 +4,14 @@ ghost use Rattle.std.specs.Prelude.{◌≡◌, ◌⊎◌, ◌≤◌, ◌<◌, �
 ghost use Rattle.std.specs.Io.KnownBytes.{Keeps};
 ghost use Rattle.ms_trace.specs.declared.fault.FaultKind.{FaultKind};
 ghost use Rattle.ms_trace.specs.Faults.{HasFault};
-ghost use Rattle.metarun.specs.Failure.{Blames, IsSettled, IsWant};
+ghost use Rattle.metarun.specs.Failure.{Blames, IsPageless, IsSettled, IsWant};
 ghost use Rattle.metarun.specs.Session.{IsDocument, IsOutput, IsAnswered, IsBrokenOff, IsText, IsWhole};
 
 use crate::asked::{Form, Options};
 use crate::charting::Chart;
 use crate::devices::{most_bytes, read_text, write_text};
 use crate::failure::Failure;
+use crate::naming::{names_at_end, read_names};
 use crate::watching::watched;
 use ms_html::page;
 use ms_json::Document;
@@ -18,20 +19,21 @@ use ms_report::AnswerText;
 use ms_run::{NoGate, replay_into, replay_observed};
 use ms_trace::{Trace, parse_within};
 use std::alloc::Global;
-use std::collections::BTreeMap;
 use std::io::{Read, Write};
+use std::rt::Files;
 use std::sync::Wait;
 use std::thread::Threads;
 
 /// Reads a trace, runs it, and writes the answer to each of its lines, in the form that is asked for;
-/// answers the exit status.
+/// returns the exit status.
 ///
-/// 0: each line is answered. 1: the trace has a fault, told on `errors`; 3: memory or a thread was
-/// wanting; in both cases nothing was written to `output`. 5: a device failed, and no more than a
-/// beginning of the answer was written, and nothing unless all of the input was read. Nothing runs
-/// before the whole trace is read. With two workers or more it waits for their threads. This
+/// 0: each line is answered. 1: the trace has a fault, which a line on `errors` names; 3: memory or a thread was
+/// wanting; in both cases nothing was written to `output`. 5: a device failed, or the file of names,
+/// which can't be read or doesn't fit the trace, and no more than a beginning of the answer was
+/// written, and nothing unless all of the input was read. Nothing runs before the whole trace is
+/// read, and the file of names after it. With two workers or more it waits for their threads. This
 /// project's choice.
-pub fn session<T: Threads + Wait + Sync, R: Read, W: Write, E: Write>(
+pub fn session<T: Threads + Wait + Files + Sync, R: Read, W: Write, E: Write>(
     rt: &T,
     alloc: Global,
     options: &Options,
@@ -60,8 +62,8 @@ pub fn session<T: Threads + Wait + Sync, R: Read, W: Write, E: Write>(
     }
 }
 
-/// Reads a trace, runs it, and gives what answers it in the form that is asked for.
-fn answer_to<T: Threads + Wait + Sync, R: Read>(
+/// Reads a trace, runs it, and returns its answer in the form that is asked for.
+fn answer_to<T: Threads + Wait + Files + Sync, R: Read>(
     rt: &T,
     alloc: Global,
     options: &Options,
@@ -79,12 +81,12 @@ fn answer_to<T: Threads + Wait + Sync, R: Read>(
     let room = emptied(text);
     match options.form {
         Form::Text => text_of(rt, alloc, options, &trace, room),
-        Form::Html => page_of(alloc, options, &trace, room),
+        Form::Html => page_of(rt, alloc, options, &trace, room),
         Form::Json => document_of(alloc, options, &trace, room),
     }
 }
 
-/// Runs a trace, and gives the text that answers it, in this room.
+/// Runs a trace, and returns the text of its answers, in this room.
 fn text_of<T: Threads + Wait + Sync>(
     rt: &T,
     alloc: Global,
@@ -101,8 +103,8 @@ fn text_of<T: Threads + Wait + Sync>(
     Ok(answers.into_text())
 }
 
-/// Runs a trace by one worker, and gives the document that tells its answers, its course and its
-/// end, in this room.
+/// Runs a trace by one worker, and returns the document of its answers, its course and its end, in
+/// this room.
 fn document_of(
     alloc: Global,
     options: &Options,
@@ -122,14 +124,25 @@ fn document_of(
     Ok(text)
 }
 
-/// Runs a trace by one worker, and gives the page that shows its course and its end, in this room.
-fn page_of(alloc: Global, options: &Options, trace: &Trace, room: String) -> Result<String, Failure>
+/// Runs a trace by one worker, and returns the page that shows its course, its end, and the names of
+/// its loaders where a file has them, in this room.
+fn page_of<T: Files>(
+    rt: &T,
+    alloc: Global,
+    options: &Options,
+    trace: &Trace,
+    room: String,
+) -> Result<String, Failure>
     requires few { length trace.now.lines < 2 ^ 32 }
-    ensures err { IfErr result IsWant }
+    ensures err { IfErr result IsPageless }
 {
     let settings = options.settings;
+    let named = match options.names {
+        Some(path) => read_names(rt, alloc, path, trace.lines.as_slice())?,
+        None => Vec::new(alloc),
+    };
     let (course, end) = watched(alloc, settings, trace)?;
-    let names = BTreeMap::new(alloc);
+    let names = names_at_end(alloc, named, &course)?;
     let text = page(alloc, room, &settings, &course, &end, &names)?;
     Ok(text)
 }

@@ -14,18 +14,19 @@ use crate::session::session;
 use std::alloc::Global;
 use std::convert::AsStr;
 use std::io::{Read, Write};
+use std::rt::Files;
 use std::sync::Wait;
 use std::thread::Threads;
 
 /// Reads a command line, whose first word is the program's name, and runs what it asks for;
-/// answers the exit status.
+/// returns the exit status.
 ///
 /// 0: each line of the trace is answered, or the help or the version was written. 2: the command
-/// line is refused, told on `errors`, and nothing was read. The other statuses are those of a
+/// line is refused, which a line on `errors` explains, and nothing was read. The other statuses are those of a
 /// session; 3 also comes where the text of a refused command line, of the help or of the version
 /// lacks memory, and 5 where help or version could not be written. With 1, 2 and 3 nothing was
 /// written to `output`. This project's choice.
-pub fn start<T: Threads + Wait + Sync, S: AsStr, R: Read, W: Write, E: Write>(
+pub fn start<T: Threads + Wait + Files + Sync, S: AsStr, R: Read, W: Write, E: Write>(
     rt: &T,
     alloc: Global,
     words: &[S],
@@ -58,7 +59,7 @@ pub fn start<T: Threads + Wait + Sync, S: AsStr, R: Read, W: Write, E: Write>(
     }
 }
 
-/// Tells why there are no options: help and version on `output`, all else on `errors`; answers the
+/// Writes why there are no options: help and version on `output`, all else on `errors`; returns the
 /// exit status.
 fn tell<W: Write, E: Write>(refused: Refused, output: &mut W, errors: &mut E) -> u8
     ensures told { (result ≡ 0) ⊎ (result ≡ 5) → IsTold refused }

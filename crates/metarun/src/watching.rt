@@ -4,15 +4,16 @@
 //! Kept true: the course has gathered the moments after the lines that were seen, and the loaders
 //! half-way. Apart from `charting` because a document needs the columns alone. Takes memory for the
 //! course, and an entry for each loader; nothing waits.
-ghost use Rattle.std.specs.Prelude.{◌≡◌, ◌<◌, ◌^◌, [], IfOk, IfErr, length, ⊤};
-ghost use Rattle.metarun.specs.Watching.{IsWatched, Watches};
+ghost use Rattle.std.specs.Prelude.{◌≡◌, ◌<◌, ◌^◌, [], IfOk, IfErr, length, map, ⊤};
+ghost use Rattle.metarun.specs.Watching.{IsWatched, Watches, asks_unload, first_unload, lines_before_unload};
+ghost use Rattle.metarun.specs.Watching.{loaders_then, then_in};
 ghost use Rattle.ms_course.specs.Gathering.{Gathers};
 ghost use Rattle.ms_run.specs.declared.fault.RunFault.TheVariants as fault;
 
-use crate::charting::asked_in;
+use crate::charting::moment_after;
 use ms_base::{Reply, Settings, Step};
-use ms_course::{Course, LoaderThen, Moment, Schedule, Standing};
-use ms_loaders::{Answer, AnswerSink, System, Totals};
+use ms_course::{Course, LoaderThen, Schedule, Standing};
+use ms_loaders::{Answer, AnswerSink, LoaderRow, System, Totals};
 use ms_run::{Observer, RunFault, replay_observed};
 use ms_trace::{Command, Line, Trace};
 use std::alloc::{AllocError, Global};
@@ -35,12 +36,7 @@ impl Observer for Watch {
         standing: &Standing,
         system: &System,
     ) -> Result<(), AllocError> {
-        self.course.push(Moment {
-            line: line.number(),
-            asked: asked_in(line),
-            reply: *reply,
-            standing: *standing,
-        })?;
+        self.course.push(&moment_after(line, reply, standing))?;
         if self.course.is_halfway() {
             let loaders = loaders_in(self.alloc, system)?;
             self.course.keep_halfway(loaders);
@@ -49,11 +45,21 @@ impl Observer for Watch {
     }
 }
 
-/// Lists the loaders of a system, in rising order of name. Takes memory for the list.
-fn loaders_in(alloc: Global, system: &System) -> Result<Vec<LoaderThen>, AllocError> {
+/// Lists the loaders of a system, in rising order of name. Takes memory for the list, and for the
+/// totals of the system.
+fn loaders_in(alloc: Global, system: &System) -> Result<Vec<LoaderThen>, AllocError>
+    ensures { IfOk result (λ loaders. loaders.items ≡ loaders_then system.now) }
+{
     let totals = system.totals()?;
+    loaders_of(alloc, totals.rows.as_slice())
+}
+
+/// Lists the loaders of these rows, in their order. Takes memory for the list.
+fn loaders_of(alloc: Global, rows: &[LoaderRow]) -> Result<Vec<LoaderThen>, AllocError>
+    ensures { IfOk result (λ loaders. loaders.items ≡ map then_in rows.now) }
+{
     let mut loaders = Vec::new(alloc);
-    for row in &totals.rows {
+    for row in rows {
         loaders.push(LoaderThen {
             name: row.name,
             kind: row.kind,
@@ -97,13 +103,33 @@ pub fn watched(
 }
 
 /// Returns the position of the first line that asks for an unloading, accepted or not.
-fn first_unload(lines: &[Line]) -> Option<u32> {
-    let mut position: u32 = 0;
-    for line in lines {
-        if let Command::Step(Step::Unload { .. }) = line.command() {
-            return Some(position);
-        }
-        position = position.saturating_add(1);
+fn first_unload(lines: &[Line]) -> Option<u32>
+    requires few { length lines.now < 2 ^ 32 }
+    ensures { result ≡ first_unload lines.now }
+{
+    let position = lines_before_unload(lines);
+    if position < lines.len() {
+        Some(position as u32)
+    } else {
+        None
     }
-    None
+}
+
+/// Counts the lines before the first one that asks for an unloading.
+fn lines_before_unload(lines: &[Line]) -> usize
+    ensures { result ≡ lines_before_unload lines.now }
+{
+    for (position, line) in lines.iter().enumerate() {
+        if asks_unload(line) {
+            return position;
+        }
+    }
+    lines.len()
+}
+
+/// Says whether a line asks for an unloading.
+fn asks_unload(line: &Line) -> bool
+    ensures { result ≡ asks_unload line.now.command }
+{
+    matches!(line.command(), Command::Step(Step::Unload { .. }))
 }

@@ -7,8 +7,8 @@ use Rattle.std.proofs.lemmas.List.Sums.{sum_by-append, sum_by-cons}
 use Rattle.ms_course.specs.declared.standing.Extent.{Extent}
 use Rattle.ms_course.specs.declared.moment.Deed.{Deed}
 use Rattle.ms_course.specs.declared.moment.Moment.{Moment}
-use Rattle.ms_course.specs.Course.{column_in, deed_in, last_asked, last_reply, counted, first_line, greater_extent, greater_standing, is_refused, last_line}
-use Rattle.ms_course.specs.Course.{last_of, most, most_of, most_words, purges, reports, unloads, with_moment}
+use Rattle.ms_course.specs.Course.{column_in, deed_in, first_asked, first_reply, counted, first_line, greater_extent, greater_standing, is_refused, last_line}
+use Rattle.ms_course.specs.Course.{most, most_of, most_words, purges, reports, unloads, with_moment}
 
 -- The most of an amount, with one moment more.
 pub most_push : (amount : Moment → ℕ) (moments : List Moment) (moment : Moment)
@@ -38,20 +38,17 @@ last_push [] moment = refl
 last_push (first ∷ []) moment = refl
 last_push (first ∷ next ∷ moments) moment = last_push (next ∷ moments) moment
 
-asked_push : (moments : List Moment) (moment : Moment) → last_asked (moments ++ moment ∷ []) ≡ Some moment.asked
+asked_push : (moments : List Moment) (moment : Moment)
+    → first_asked (moments ++ moment ∷ []) ≡ (if length moments == 0 then Some moment.asked else first_asked moments)
 asked_push [] moment = refl
-asked_push (first ∷ []) moment = refl
-asked_push (first ∷ next ∷ moments) moment = asked_push (next ∷ moments) moment
+asked_push (first ∷ moments) moment =
+    ap (λ (b : Bool). if b then Some moment.asked else Some first.asked) (sym (eqb-suc-zero (length moments)))
 
-reply_push : (moments : List Moment) (moment : Moment) → last_reply (moments ++ moment ∷ []) ≡ Some moment.reply
+reply_push : (moments : List Moment) (moment : Moment)
+    → first_reply (moments ++ moment ∷ []) ≡ (if length moments == 0 then Some moment.reply else first_reply moments)
 reply_push [] moment = refl
-reply_push (first ∷ []) moment = refl
-reply_push (first ∷ next ∷ moments) moment = reply_push (next ∷ moments) moment
-
-pub last_of_push : (moments : List Moment) (moment : Moment) → last_of (moments ++ moment ∷ []) ≡ Some moment
-last_of_push [] moment = refl
-last_of_push (first ∷ []) moment = refl
-last_of_push (first ∷ next ∷ moments) moment = last_of_push (next ∷ moments) moment
+reply_push (first ∷ moments) moment =
+    ap (λ (b : Bool). if b then Some moment.reply else Some first.reply) (sym (eqb-suc-zero (length moments)))
 
 -- The most of each, and a column, with one moment more.
 words_push : (extent : Moment → Extent) (moments : List Moment) (moment : Moment)

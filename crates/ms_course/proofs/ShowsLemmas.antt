@@ -1,7 +1,7 @@
 -- Columns that show one moment more. `Columns.push` uses these.
 use Rattle.std.proofs.Common.{◌≡◌, ◌≢◌, ◌+◌, ◌<◌, ◌⊎◌, inl, inr, ℕ, true, false, List, [], ◌∷◌, ◌++◌}
 use Rattle.std.proofs.Common.{length, sym, ap, ◌∙◌, arith, get_or, length-append}
-use Rattle.std.specs.Prelude.{Option, Some, slice_get, slice_set}
+use Rattle.std.specs.Prelude.{Some, slice_get, slice_set}
 use Rattle.std.proofs.lemmas.Bool.Decides.{eqb_tells}
 use Rattle.std.proofs.Math.Dec.{eqb}
 use Rattle.std.proofs.lemmas.Grind.{get_or-set_at}
@@ -12,7 +12,6 @@ use Rattle.ms_course.specs.declared.moment.Moment.{Moment}
 use Rattle.ms_course.specs.declared.column.Column.{Column}
 use Rattle.ms_course.specs.Course.{ColumnsView, Shows, column_count, column_in, column_of, falling, with_moment}
 use Rattle.ms_course.specs.Fewness.{AreFew, IsFilling}
-use Rattle.ms_course.proofs.MomentLemmas.{last_of_push}
 use Rattle.ms_course.proofs.FallingLemmas.{its_column, other_column, past_columns}
 
 -- Few of so many are few of one more.
@@ -36,23 +35,22 @@ filled lines answered place columns new its goes few = record {
 }
 
 -- Columns with one changed.
-abbrev pub view_with : ℕ → ℕ → List Column → Option Moment → ColumnsView
-view_with lines answered columns last = record { lines = lines; answered = answered; columns = columns; last = last }
+abbrev pub view_with : ℕ → ℕ → List Column → ColumnsView
+view_with lines answered columns = record { lines = lines; answered = answered; columns = columns }
 
 -- They show the moment after the next line.
-pub shows_next : (lines answered place : ℕ) (columns : List Column) (last : Option Moment) (new d : Column)
-    (moments : List Moment) (moment : Moment) → Shows (view_with lines answered columns last) moments → answered < lines
+pub shows_next : (lines answered place : ℕ) (columns : List Column) (new d : Column)
+    (moments : List Moment) (moment : Moment) → Shows (view_with lines answered columns) moments → answered < lines
     → place ≡ column_of lines answered → place < column_count lines
     → new ≡ with_moment (get_or columns place d) moment
-    → Shows (view_with lines (answered + 1) (slice_set columns place new) (Some moment)) (moments ++ moment ∷ [])
-shows_next lines answered place columns last new d moments moment its goes is within new_is =
+    → Shows (view_with lines (answered + 1) (slice_set columns place new)) (moments ++ moment ∷ [])
+shows_next lines answered place columns new d moments moment its goes is within new_is =
     let so_many : answered ≡ length moments = omega (arith, its.answered, goes) in
     let there : column_of lines (length moments) ≡ place = ap (column_of lines) (sym so_many) ∙ sym is in
     record {
       answered = omega (arith, length-append moments (moment ∷ []), so_many, goes);
       count = length-set columns place new ∙ its.count;
       each = λ column below. at column below there (eqb_tells column place);
-      last = sym (last_of_push moments moment);
     }
   where
     was : (d : Column) (column : ℕ) → column < column_count lines
@@ -83,15 +81,14 @@ shows_next lines answered place columns last new d moments moment its goes is wi
         ∙ sym (other_column lines column moments moment (λ e. other.1 (sym e ∙ there))))
 
 -- A moment past the lines falls into none.
-pub shows_past : (lines answered : ℕ) (columns : List Column) (last : Option Moment) (moments : List Moment)
-    (moment : Moment) → Shows (view_with lines answered columns last) moments → answered ≡ lines
-    → Shows (view_with lines answered columns (Some moment)) (moments ++ moment ∷ [])
-shows_past lines answered columns last moments moment its all = record {
+pub shows_past : (lines answered : ℕ) (columns : List Column) (moments : List Moment) (moment : Moment)
+    → Shows (view_with lines answered columns) moments → answered ≡ lines
+    → Shows (view_with lines answered columns) (moments ++ moment ∷ [])
+shows_past lines answered columns moments moment its all = record {
   answered = omega (arith, length-append moments (moment ∷ []), its.answered, all);
   count = its.count;
   each = λ column below.
       its.each column below
       ∙ ap Some (sym (other_column lines column moments moment
       (past_columns lines column (length moments) (omega (arith, its.answered, all)) below)));
-  last = sym (last_of_push moments moment);
 }

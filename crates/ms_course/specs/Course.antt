@@ -98,16 +98,14 @@ last_line [] = 0
 last_line (moment ∷ []) = moment.line
 last_line (moment ∷ next ∷ moments) = last_line (next ∷ moments)
 
--- What the last line asked, and how it was answered.
-abbrev pub last_asked : List Moment → Option Asked
-last_asked [] = None
-last_asked (moment ∷ []) = Some moment.asked
-last_asked (moment ∷ next ∷ moments) = last_asked (next ∷ moments)
+-- What the first line asked, and how it was answered.
+abbrev pub first_asked : List Moment → Option Asked
+first_asked [] = None
+first_asked (moment ∷ moments) = Some moment.asked
 
-abbrev pub last_reply : List Moment → Option Reply
-last_reply [] = None
-last_reply (moment ∷ []) = Some moment.reply
-last_reply (moment ∷ next ∷ moments) = last_reply (next ∷ moments)
+abbrev pub first_reply : List Moment → Option Reply
+first_reply [] = None
+first_reply (moment ∷ moments) = Some moment.reply
 
 -- What a column shows of its moments.
 abbrev pub column_in : List Moment → Column
@@ -120,8 +118,8 @@ column_in moments = record {
   purges = counted purges moments;
   refusals = counted is_refused moments;
   reports = counted reports moments;
-  asked = last_asked moments;
-  reply = last_reply moments;
+  asked = first_asked moments;
+  reply = first_reply moments;
 }
 
 -- A column with one moment more, part by part.
@@ -154,23 +152,15 @@ with_moment column moment = record (with_deed column (deed_in moment)) {
   first_line = if column.lines == 0 then moment.line else column.first_line;
   last_line = moment.line;
   most = greater_standing column.most moment.standing;
-  asked = Some moment.asked;
-  reply = Some moment.reply;
+  asked = if column.lines == 0 then Some moment.asked else column.asked;
+  reply = if column.lines == 0 then Some moment.reply else column.reply;
 }
 
--- The last of some moments.
-abbrev pub last_of : List Moment → Option Moment
-last_of [] = None
-last_of (moment ∷ []) = Some moment
-last_of (moment ∷ next ∷ moments) = last_of (next ∷ moments)
-
--- What there is of columns: how many lines the run has, how many were answered, the columns, and
--- the last moment.
+-- What there is of columns: how many lines the run has, how many were answered, and the columns.
 pub record ColumnsView : Type 0 where
   pub lines : ℕ
   pub answered : ℕ
   pub columns : List Column
-  pub last : Option Moment
 
 -- Columns show the moments after the lines so far: each shows those that fall into it.
 pub record Shows (view : ColumnsView) (moments : List Moment) : Type 0 where
@@ -178,4 +168,3 @@ pub record Shows (view : ColumnsView) (moments : List Moment) : Type 0 where
   pub count : length view.columns ≡ column_count view.lines
   pub each : (column : ℕ) → column < column_count view.lines
       → slice_get view.columns column ≡ Some (column_in (falling view.lines column 0 moments))
-  pub last : view.last ≡ last_of moments

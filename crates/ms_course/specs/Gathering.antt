@@ -177,8 +177,9 @@ pub record CourseView : Type 0 where
   pub births : List (ℕ × Birth)
   pub halfway : List LoaderThen
 
--- A course has gathered the moments after the lines so far.
+-- A course has gathered the moments after the lines so far; its columns are of all lines.
 pub record Gathers (view : CourseView) (moments : List Moment) : Type 0 where
+  pub lines : view.columns.lines ≡ view.schedule.lines
   pub columns : Shows view.columns moments
   pub refusals : Counts view.refusals moments
   pub before : view.before ≡ stretch_of (between view.schedule.turn view.schedule.half 0 moments)

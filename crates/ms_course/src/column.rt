@@ -30,7 +30,7 @@ pub struct Column {
     pub refusals: u32,
     /// Reports.
     pub reports: u32,
-    /// What the last line asked, where there is one.
+    /// What the first line asked, where there is one.
     pub asked: Option<Asked>,
     /// How it was answered.
     pub reply: Option<Reply>,
@@ -61,12 +61,12 @@ pub(crate) fn add(column: &mut Column, moment: &Moment)
     count(column, moment.asked.deed(&moment.reply));
     if column.lines == 0 {
         column.first_line = moment.line;
+        column.asked = Some(moment.asked);
+        column.reply = Some(moment.reply);
     }
     column.last_line = moment.line;
     column.lines += 1;
     column.most = greater(&column.most, &moment.standing);
-    column.asked = Some(moment.asked);
-    column.reply = Some(moment.reply);
 }
 
 /// Counts what one line more did.

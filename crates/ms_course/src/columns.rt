@@ -21,8 +21,6 @@ pub struct Columns {
     answered: u32,
     // The columns, those of no line yet among them.
     columns: Vec<Column>,
-    // The last moment, where there was one.
-    last: Option<Moment>,
 }
 
 impl Model for Columns {
@@ -37,7 +35,6 @@ impl Model for Columns {
       lines = c.lines;
       answered = c.answered;
       columns = c.columns.items;
-      last = c.last;
     } };
 
     ghost invariant = { λ c. IsFilling c.lines c.answered c.columns.items };
@@ -56,24 +53,22 @@ impl Columns {
             lines,
             answered: 0,
             columns,
-            last: None,
         })
     }
 
     /// Adds the moment after the next line; one past the last line falls into no column. Takes no
     /// memory.
-    pub fn push(&mut self, moment: Moment)
+    pub fn push(&mut self, moment: &Moment)
         ensures shown { (moments : List MomentOf) → Shows self.old moments
-            → Shows self.new (moments ++ moment ∷ []) }
+            → Shows self.new (moments ++ moment.now ∷ []) }
         ensures lines { self.new.lines ≡ self.old.lines }
         ensures answered { self.new.answered ≡ min (self.old.answered + 1) self.old.lines }
     {
-        self.last = Some(moment);
         if self.answered == self.lines {
             return;
         }
         let place = column_for(self.answered, self.lines);
-        add(&mut self.columns[place], &moment);
+        add(&mut self.columns[place], moment);
         self.answered += 1;
     }
 
@@ -82,13 +77,6 @@ impl Columns {
         ensures { result.now ≡ self.now.columns }
     {
         self.columns.as_slice()
-    }
-
-    /// Returns the last moment, where there was one.
-    pub fn last(&self) -> Option<Moment>
-        ensures { result ≡ self.now.last }
-    {
-        self.last
     }
 
     /// Returns how many of the lines were answered.

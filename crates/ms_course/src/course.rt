@@ -9,7 +9,7 @@ use crate::moment::Moment;
 use crate::reason::Reason;
 use crate::refusals::{Refusals, Refused};
 use crate::schedule::Schedule;
-use crate::stretch::{Stretch, continued, lies_between};
+use crate::stretch::{Stretch, go_on, lies_between};
 use ms_base::Kind;
 use std::alloc::{AllocError, Global};
 use std::marker::Model;
@@ -81,10 +81,10 @@ impl Course {
 
     /// Adds the moment after the next line; one past the last line changes nothing. Takes memory
     /// where the line made a loader. An error means that it was refused, and nothing changed.
-    pub fn push(&mut self, moment: Moment) -> Result<(), AllocError>
+    pub fn push(&mut self, moment: &Moment) -> Result<(), AllocError>
         ensures gathered { OnOk result ((moments : List MomentOf)
             → length moments < self.old.schedule.lines → Gathers self.old moments
-            → Gathers self.new (moments ++ moment ∷ [])) }
+            → Gathers self.new (moments ++ moment.now ∷ [])) }
         ensures schedule { self.new.schedule ≡ self.old.schedule }
         ensures halfway { self.new.halfway ≡ self.old.halfway }
         ensures unchanged { OnErr result (self.new ≡ self.old) }
@@ -93,15 +93,13 @@ impl Course {
         if position == self.schedule.lines {
             return Ok(());
         }
-        self.births.note(position, &moment)?;
-        self.refusals.note(&moment);
+        self.births.note(position, moment)?;
+        self.refusals.note(moment);
         let Schedule { lines, turn, half } = self.schedule;
         let is_before = lies_between(turn, half, position);
         let is_after = lies_between(half, lines, position);
-        let before = continued(is_before, self.before, &moment);
-        let after = continued(is_after, self.after, &moment);
-        self.before = before;
-        self.after = after;
+        go_on(&mut self.before, is_before, moment);
+        go_on(&mut self.after, is_after, moment);
         self.columns.push(moment);
         Ok(())
     }

@@ -28,14 +28,12 @@ pub(crate) fn lies_between(first: u32, end: u32, position: u32) -> bool
     first <= position && position < end
 }
 
-/// Returns the stretch with one moment more where it lies within.
-pub(crate) fn continued(within: bool, stretch: Stretch, moment: &Moment) -> Stretch
-    ensures { result ≡ stretch_next within stretch moment.now }
+/// Adds a moment to a stretch where it lies within.
+pub(crate) fn go_on(stretch: &mut Stretch, within: bool, moment: &Moment)
+    ensures { stretch.new ≡ stretch_next within stretch.old moment.now }
 {
     if within {
-        extended(stretch, moment)
-    } else {
-        stretch
+        *stretch = extended(*stretch, moment);
     }
 }
 

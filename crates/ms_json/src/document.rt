@@ -59,7 +59,7 @@ impl Model for Document {
 
 impl Document {
     /// Makes the document of no answer, in the room of a text that is done with, which is emptied.
-    /// Where a block starts, a word number, is told only if addresses are asked for. Takes memory
+    /// Where a block starts, a word number, stands in it only if addresses are asked for. Takes memory
     /// for a few bytes; an error means that it was refused.
     pub fn new(alloc: Global, mut room: String, addresses: bool) -> Result<Document, AllocError>
         ensures { IfOk result (λ document. document ≡ no_answer addresses) }
@@ -77,7 +77,7 @@ impl Document {
         })
     }
 
-    /// Adds one answer more, and the state that its report tells. An error means that a growth was
+    /// Adds one answer more, and the state that its report shows. An error means that a growth was
     /// refused; then the document is that of no answer. Takes memory.
     pub fn push(&mut self, answer: &Answer) -> Result<(), AllocError>
         ensures { OnOk result ((first : DocumentView) (before : List AnswerOf) → Tells first self.old before
@@ -108,7 +108,7 @@ impl Document {
 }
 
 impl Document {
-    /// Gives the whole document: beside the answers that were put, the settings of the run, how many
+    /// Returns the whole document: beside the answers that were put, the settings of the run, how many
     /// command lines its trace has, the columns of its course, and the totals of its end. Its text
     /// is what serde_json's `to_string` writes of it, and a newline. Takes memory for the text; an
     /// error means that a growth was refused. This project's choice.
@@ -171,7 +171,7 @@ fn push_rest(text: &mut String, reports: &str, settings: &Settings) -> Result<()
     text.push_str("}\n")
 }
 
-/// Appends the elements that are complete with an answer, and the state that its report tells.
+/// Appends the elements that are complete with an answer, and the state that its report shows.
 fn push_answer(
     text: &mut String,
     later: &mut bool,
@@ -198,7 +198,7 @@ fn push_answer(
     push_reported(reports, more, refusals, answer)
 }
 
-/// Appends the state that an answer's report tells, where it has one.
+/// Appends the state that an answer's report shows, where it has one.
 fn push_reported(
     reports: &mut String,
     more: &mut bool,

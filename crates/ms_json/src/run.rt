@@ -1,4 +1,4 @@
-//! Lines in a row that are told as `ok`.
+//! Lines in a row that are answered `ok`.
 ghost use Rattle.std.specs.Prelude.{◌≡◌, ◌++◌, ◌∷◌, [], true, None, Some, OnOk, codes, decimal, string_bytes};
 ghost use Rattle.json.specs.Print.{quoted};
 ghost use Rattle.serde_json.specs.Written.{compact_text};
@@ -11,14 +11,14 @@ use ms_base::{Refusal, Reply};
 use ms_loaders::Answer;
 use std::alloc::AllocError;
 
-/// Lines one after the other that are told as `ok`, by the numbers of the first and the last.
+/// Lines one after the other that are answered `ok`, by the numbers of the first and the last.
 #[derive(Clone, Copy, Debug)]
 pub(crate) struct Run {
     pub first: u32,
     pub last: u32,
 }
 
-/// Returns whether a reply is told as `ok`.
+/// Returns whether a reply is shown as `ok`.
 fn is_done(addresses: bool, reply: Reply) -> bool
     ensures { result ≡ is_done addresses reply }
 {
@@ -29,7 +29,7 @@ fn is_done(addresses: bool, reply: Reply) -> bool
     }
 }
 
-/// Lengthens the pending run by a line that is told as `ok`: returns the run that is complete then,
+/// Lengthens the pending run by a line that is answered `ok`: returns the run that is complete then,
 /// if any, and the one that is pending.
 fn lengthened(pending: Option<Run>, line: u32) -> (Option<Run>, Run)
     ensures { with_line pending line ≡ (closed result.0, Some result.1) }
@@ -72,7 +72,7 @@ pub(crate) fn push_told(
     push_other(text, later, pending, addresses, answer)
 }
 
-/// Appends the run that a line told as `ok` completes, and opens the one that it is of.
+/// Appends the run that a line answered `ok` completes, and opens the one that it is of.
 fn push_done(
     text: &mut String,
     later: &mut bool,
@@ -89,7 +89,7 @@ fn push_done(
     push_closed(text, later, complete)
 }
 
-/// Appends the run that is open, and the element of a line that is not told as `ok`.
+/// Appends the run that is open, and the element of a line that is not answered `ok`.
 fn push_other(
     text: &mut String,
     later: &mut bool,

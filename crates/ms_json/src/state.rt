@@ -1,4 +1,4 @@
-//! One state: what a full report tells, as an object.
+//! One state: what a full report shows, as an object.
 ghost use Rattle.std.specs.Prelude.{◌≡◌, ◌++◌, ◌/◌, true, false, OnOk, map, codes, string_bytes};
 ghost use Rattle.std.specs.Option.{option_map};
 ghost use Rattle.serde_json.specs.Written.{compact_text};
@@ -60,7 +60,7 @@ fn push_line(text: &mut String, line: Option<u32>) -> Result<(), AllocError>
     }
 }
 
-/// Appends what the loaders of each kind hold, where that is told.
+/// Appends what the loaders of each kind hold, where the totals have it.
 fn push_kinds_if(text: &mut String, details: &Option<Details>) -> Result<(), AllocError>
     ensures { OnOk result (string_bytes text.new ≡ string_bytes text.old
         ++ compact_text (kinds_if (option_map details_in details.now))) }
@@ -128,7 +128,7 @@ fn kind_word(kind: Kind) -> &'static str
     }
 }
 
-/// Appends the loaders, where they are told.
+/// Appends the loaders, where the totals have them.
 fn push_loaders_told(text: &mut String, details: &Option<Details>) -> Result<(), AllocError>
     ensures { OnOk result (string_bytes text.new ≡ string_bytes text.old
         ++ compact_text (loaders_data (option_map details_in details.now))) }
@@ -177,7 +177,7 @@ fn push_loader(text: &mut String, loader: &LoaderDetails) -> Result<(), AllocErr
     push_object(text, &rows)
 }
 
-/// Appends the maps of roots, where they are told.
+/// Appends the maps of roots, where the totals have them.
 fn push_map_told(text: &mut String, details: &Option<Details>) -> Result<(), AllocError>
     ensures { OnOk result (string_bytes text.new ≡ string_bytes text.old
         ++ compact_text (map_data (option_map details_in details.now))) }
@@ -225,7 +225,7 @@ fn push_root(text: &mut String, root: &RootMap) -> Result<(), AllocError>
     push_object(text, &rows)
 }
 
-/// Appends the peaks, where they are told.
+/// Appends the peaks, where the totals have them.
 fn push_peaks_told(text: &mut String, peaks: Option<Peaks>) -> Result<(), AllocError>
     ensures { OnOk result (string_bytes text.new
         ≡ string_bytes text.old ++ compact_text (peaks_told peaks)) }

@@ -10,6 +10,8 @@
 ghost use Rattle.std.specs.Prelude.{◌≡◌, [], ◌∷◌, true, IfOk, IfErr, OnOk};
 ghost use Rattle.ms_base.specs.Good.{IsGood};
 ghost use Rattle.ms_base.specs.State.{limits_of};
+ghost use Rattle.ms_base.specs.Totals.{committed_words};
+ghost use Rattle.ms_base.specs.declared.kind.Space.TheVariants.{Class};
 ghost use Rattle.ms_course.specs.Standing.{standing_of};
 ghost use Rattle.ms_loaders.specs.Amounts.{amounts_of, no_amounts};
 ghost use Rattle.ms_run.specs.Counting.{HasTaken, IsCounted};
@@ -166,10 +168,23 @@ fn standing(system: &System, amounts: Amounts) -> Standing
         },
         class_space: Extent {
             reserved: class_reserved,
-            committed: system.class_committed(),
+            committed: class_committed(system, counts.class_nodes),
             used: amounts.class_used,
             live: amounts.class_live,
         },
         loaders: system.loader_count(),
+    }
+}
+
+/// Returns the committed words of a class space of so many nodes, which are none where it has none.
+fn class_committed(system: &System, class_nodes: u32) -> u64
+    requires good { IsGood system.now }
+    requires nodes { class_nodes ≡ system.now.limits.class_nodes }
+    ensures { result ≡ committed_words Class system.now }
+{
+    if class_nodes == 0 {
+        0
+    } else {
+        system.class_committed()
     }
 }

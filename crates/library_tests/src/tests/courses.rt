@@ -1,4 +1,4 @@
-//! What no clause says: that a course and a document go through where memory is ample. The expected
+//! What no clause says: that a course, a document and a picture go through where memory is ample. The expected
 //! numbers follow from the rules: of four lines of which the third asks for an unloading, the run
 //! turns at position 2 and is half-way at position (2 + 4) / 2 = 3; line j of n falls into column
 //! j * 512 / n, cut off, where n is more than 512.
@@ -10,6 +10,7 @@ use ms_course::{
 };
 use ms_json::Document;
 use ms_loaders::{Answer, System};
+use ms_page::{ClassCase, CommittedCase, LoaderCase, Picture, RefusedCase};
 use std::alloc::{AllocError, Global};
 use std::process::Abort;
 
@@ -71,16 +72,16 @@ fn course(alloc: Global) -> Result<(Course, [bool; 4]), AllocError> {
     let [first, second, third, fourth] = moments();
     let mut course = Course::new(alloc, Schedule::new(4, Some(2)))?;
     let one = course.is_halfway();
-    course.push(first)?;
+    course.push(&first)?;
     let two = course.is_halfway();
-    course.push(second)?;
+    course.push(&second)?;
     let three = course.is_halfway();
-    course.push(third)?;
+    course.push(&third)?;
     let four = course.is_halfway();
     let mut then = Vec::new(alloc);
     then.push(THEN)?;
     course.keep_halfway(then);
-    course.push(fourth)?;
+    course.push(&fourth)?;
     Ok((course, [one, two, three, four]))
 }
 
@@ -148,14 +149,6 @@ fn committed_in(columns: &Columns) -> [u64; 4] {
     words
 }
 
-/// The number of a moment's line.
-fn line_of(moment: Option<Moment>) -> Option<u32> {
-    match moment {
-        Some(moment) => Some(moment.line),
-        None => None,
-    }
-}
-
 #[test]
 fn lines_past_512_share_columns(rt: HostRuntime) {
     let places = [
@@ -167,16 +160,13 @@ fn lines_past_512_share_columns(rt: HostRuntime) {
     ];
     let mut columns = Columns::new(rt.alloc(), 513).expect(&rt, "memory is ample");
     let [first, second, _, _] = moments();
-    let wanted = Some(second.line);
-    columns.push(first);
-    columns.push(second);
+    columns.push(&first);
+    columns.push(&second);
     let shared = columns.columns().first().copied();
     let count = columns.columns().len();
-    let last = line_of(columns.last());
     drop(columns);
     same(&rt, &places, &[0, 0, 1, 511, 511]);
     same(&rt, &count, &512);
-    same(&rt, &last, &wanted);
     let shared = shared.expect(&rt, "no column");
     let told = [
         shared.lines,
@@ -191,7 +181,7 @@ fn lines_past_512_share_columns(rt: HostRuntime) {
 fn document(alloc: Global) -> Result<String, AllocError> {
     let [first, _, _, _] = moments();
     let mut columns = Columns::new(alloc, 1)?;
-    columns.push(first);
+    columns.push(&first);
     let mut document = Document::new(alloc, String::new(alloc), false)?;
     document.push(&Answer {
         line: 1,
@@ -220,4 +210,43 @@ fn a_document_of_one_line_is_written(rt: HostRuntime) {
     let ends = text.ends_with(ENDS);
     drop(text);
     same(&rt, &(begins, ends), &(true, true));
+}
+
+/// The picture of the course of four lines, at whose end there is nothing.
+fn picture(alloc: Global) -> Result<Picture, AllocError> {
+    let (course, _) = course(alloc)?;
+    let system = System::new(alloc, Settings::DEFAULT)?;
+    let end = system.totals()?;
+    drop(system);
+    let picture = Picture::new(alloc, &Settings::DEFAULT, &course, &end)?;
+    drop(course);
+    drop(end);
+    Ok(picture)
+}
+
+#[test]
+fn a_picture_shows_a_course(rt: HostRuntime) {
+    let picture = picture(rt.alloc()).expect(&rt, "memory is ample");
+    let listed = [
+        picture.loaders.len(),
+        picture.largest.len(),
+        picture.stays.len(),
+    ];
+    let peaks = picture.peaks;
+    let [boot, standard, _, _] = picture.kinds;
+    let then = [
+        boot.loaders_then,
+        boot.live_then,
+        standard.loaders_then,
+        standard.live_then,
+    ];
+    let tiles = picture.tiles;
+    drop(picture);
+    same(&rt, &listed, &[0, 0, 4]);
+    same(&rt, &peaks, &stands(24_576, 1));
+    same(&rt, &then, &[1, 5, 0, 0]);
+    same(&rt, &tiles.committed, &CommittedCase::Refused);
+    same(&rt, &tiles.class_space, &ClassCase::Unwanted);
+    same(&rt, &tiles.loaders, &LoaderCase::Rising);
+    same(&rt, &tiles.refused, &RefusedCase::Wants);
 }

@@ -25,6 +25,7 @@ use Rattle.ms_trace.specs.declared.trace.Line.{Line}
 use Rattle.ms_trace.specs.Steps.{step_of}
 use Rattle.ms_course.specs.Standing.{standing_of}
 use Rattle.ms_course.specs.declared.standing.Standing.{Standing}
+use Rattle.ms_course.proofs.NestLemmas.{good_nests}
 use Rattle.ms_pool.specs.LimitCounts.{limit_counts}
 use Rattle.ms_pool.specs.declared.pool.counts.LimitCounts.{LimitCounts}
 use Rattle.ms_loaders.specs.Amounts.{amounts_by, amounts_if, amounts_of, no_amounts}
@@ -217,6 +218,15 @@ stands_so m counts amounts nodes class_nodes committed class_committed loaders i
     class_slots_are : class_nodes ≡ length (class_slots m.limits.class_nodes)
     class_slots_are =
         class_are ∙ ap (λ (c : LimitCounts). c.class_nodes) is ∙ sym (length-range_with_len 64 m.limits.class_nodes)
+
+-- A class space without nodes has no committed granule.
+pub no_class_granules : (m : Machine) → IsGood m → m.limits.class_nodes ≡ 0 → committed_words Class m ≡ 0
+no_class_granules m good none =
+    let slots : length (class_slots m.limits.class_nodes) ≡ 0 =
+    length-range_with_len 64 m.limits.class_nodes ∙ none in
+    let within : committed_words Class m ≤ length (class_slots m.limits.class_nodes) * 1048576 =
+    (good_nests m good).class_space.committed in
+    omega (arith, slots, within)
 
 -- The bounds of a system's words, so that they can be added.
 pub are_added : (m : Machine) (amounts : Amounts) → IsGood m → amounts ≡ amounts_of m

@@ -5,7 +5,8 @@ use Rattle.ms_trace.specs.Faults.{BlamesText}
 use Rattle.ms_trace.specs.Spelling.{ReadsAs}
 use Rattle.metarun.specs.Session.{IsWhole}
 use Rattle.metarun.specs.declared.asked.Form.TheVariants.{Text, Html, Json}
-use Rattle.metarun.proofs.FormLemmas.{answers_whole, any_page, few_lines, want_blames, want_settles}
+use Rattle.metarun.proofs.FormLemmas.{answers_whole, any_page, few_lines, pageless_blames, pageless_settles, want_blames}
+use Rattle.metarun.proofs.FormLemmas.{want_settles}
 use Rattle.metarun.proofs.InputLemmas.{blames_whole, is_whole}
 use Rattle.metarun.proofs.session.answer_to.Goals as goal
 use Rattle.metarun.proofs.session.answer_to.Goals.{After-emptied-room}
@@ -73,10 +74,10 @@ returns-in-Html-clause-ok g c =
 
 pub returns-in-Html-clause-err : goal.returns-in-Html-clause-err
 returns-in-Html-clause-err g c =
-    want_blames c.args.options.now.max_lines (g.R.Read.remaining c.args.input.now) c.page_of.result c.page_of.ensures.err
+    pageless_blames c.args.options.now.max_lines (g.R.Read.remaining c.args.input.now) c.page_of.result c.page_of.ensures.err
 
 pub returns-in-Html-clause-settled : goal.returns-in-Html-clause-settled
-returns-in-Html-clause-settled g c = want_settles c.page_of.result c.page_of.ensures.err
+returns-in-Html-clause-settled g c = pageless_settles c.page_of.result c.page_of.ensures.err
 
 pub returns-clause-ok : goal.returns-clause-ok
 returns-clause-ok g c =

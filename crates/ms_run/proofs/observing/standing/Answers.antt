@@ -1,4 +1,5 @@
-use Rattle.std.proofs.Common.{arith}
+use Rattle.std.proofs.Common.{ap, arith}
+use Rattle.ms_pool.specs.declared.pool.counts.LimitCounts.{LimitCounts}
 use Rattle.ms_run.proofs.metered.AmountLemmas.{are_added, stands_so}
 use Rattle.ms_run.proofs.observing.standing.Goals as goal
 
@@ -9,6 +10,9 @@ overflow_add-result-2 c =
 pub overflow_add-result-3 : goal.overflow_add-result-3
 overflow_add-result-3 c =
     let added = are_added c.args.system.now c.args.amounts c.requires.good c.requires.amounts in omega (arith, added.1)
+
+pub class_committed-requires-clause-nodes : goal.class_committed-requires-clause-nodes
+class_committed-requires-clause-nodes c = ap (λ (counts : LimitCounts). counts.class_nodes) c.counts-counts.ensures
 
 pub returns : goal.returns
 returns c =

@@ -5,6 +5,6 @@ use Rattle.metarun.proofs.charting.ChartObserver.see.Goals as goal
 pub returns : goal.returns
 returns c = λ first before so_far.
     charts_more first.columns c.args.self.now.columns c.push.new.self before
-    (sight_of c.args.line.now c.args.reply.now c.args._system.now) _
-    (moment_is c.args.line.now c.args.reply.now c.args._system.now _ _ _ c.number.ensures c.asked_in.ensures
-    c.requires.standing) c.push.ensures.shown c.push.ensures.lines so_far
+    (sight_of c.args.line.now c.args.reply.now c.args._system.now) c.moment_after.result
+    (moment_is c.args.line.now c.args.reply.now c.args._system.now _ _ c.moment_after.ensures c.requires.standing)
+    c.push.ensures.shown c.push.ensures.lines so_far

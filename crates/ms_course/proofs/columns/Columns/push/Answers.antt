@@ -1,4 +1,4 @@
-use Rattle.std.proofs.Common.{◌∙◌, sym, subst, arith, ap}
+use Rattle.std.proofs.Common.{◌∙◌, ◌++◌, [], ◌∷◌, sym, subst, arith, ap}
 use Rattle.ms_course.specs.declared.column.Column.{Column}
 use Rattle.ms_course.specs.Course.{ColumnsView, Shows, with_moment}
 use Rattle.ms_course.specs.Fewness.{AreFew}
@@ -8,20 +8,21 @@ use Rattle.ms_course.proofs.columns.Columns.push.Goals as goal
 pub returns-then-self-clause-shown : goal.returns-then-self-clause-shown
 returns-then-self-clause-shown c = λ moments its.
     let was = c.self.inside in
-    shows_past was.lines was.answered was.columns.items was.last moments c.args.moment
-    (subst (λ (view : ColumnsView). Shows view moments) (sym c.self.view_is) its) c.if-self.true
+    subst (λ (view : ColumnsView). Shows view (moments ++ c.args.moment.now ∷ [])) c.self.view_is
+    (shows_past was.lines was.answered was.columns.items moments c.args.moment.now
+    (subst (λ (view : ColumnsView). Shows view moments) (sym c.self.view_is) its) c.if-self.true)
 
 pub returns-clause-shown : goal.returns-clause-shown
 returns-clause-shown c = λ moments its.
     let was = c.self.inside in
-    shows_next was.lines was.answered c.column_for-place.result was.columns.items was.last c.add.new.column
-    c.index_mut.result.now moments c.args.moment (subst (λ (view : ColumnsView). Shows view moments) (sym c.self.view_is) its)
+    shows_next was.lines was.answered c.column_for-place.result was.columns.items c.add.new.column
+    c.index_mut.result.now moments c.args.moment.now (subst (λ (view : ColumnsView). Shows view moments) (sym c.self.view_is) its)
     (omega (arith, c.self.invariant.within, c.if-self.false)) c.column_for-place.ensures.column
     c.column_for-place.ensures.within
-    (c.add.ensures.shown ∙ ap (λ (old : Column). with_moment old c.args.moment) c.index_mut.ensures.value)
+    (c.add.ensures.shown ∙ ap (λ (old : Column). with_moment old c.args.moment.now) c.index_mut.ensures.value)
 
-pub invariant_of-self-2 : goal.invariant_of-self-2
-invariant_of-self-2 c =
+pub invariant_of-self : goal.invariant_of-self
+invariant_of-self c =
     let was = c.self.inside in
     filled was.lines was.answered c.column_for-place.result was.columns.items c.add.new.column c.self.invariant
     (omega (arith, c.self.invariant.within, c.if-self.false))

@@ -28,7 +28,7 @@ invariant_of-self-2 c =
 pub returns-clause-gathered : goal.returns-clause-gathered
 returns-clause-gathered c = λ moments more its.
     let was = c.self.inside in
-    let moment = c.args.moment in
+    let moment = c.args.moment.now in
     let here = subst (λ (view : CourseView). Gathers view moments) (sym c.self.view_is) its in
     let at : c.answered-position.result ≡ length moments = omega (
       arith,
@@ -39,17 +39,18 @@ returns-clause-gathered c = λ moments more its.
       here.columns.answered,
     ) in
     record {
+      lines = c.push.ensures.lines ∙ c.self.invariant.lines;
       columns = c.push.ensures.shown moments here.columns;
       refusals = c.note-2.ensures.counts moments here.refusals;
       before =
-          c.continued-before.ensures
+          c.go_on.ensures
           ∙ ap (λ (b : Bool). stretch_next b was.before moment)
           (c.lies_between-is_before.ensures ∙ ap (lies was.schedule.turn was.schedule.half) at)
           ∙ ap (λ (stretch : Stretch).
           stretch_next (lies was.schedule.turn was.schedule.half (length moments)) stretch moment) here.before
           ∙ sym (between_push was.schedule.turn was.schedule.half moments moment);
       after =
-          c.continued-after.ensures
+          c.go_on-2.ensures
           ∙ ap (λ (b : Bool). stretch_next b was.after moment)
           (c.lies_between-is_after.ensures ∙ ap (lies was.schedule.half was.schedule.lines) at)
           ∙ ap (λ (stretch : Stretch).
