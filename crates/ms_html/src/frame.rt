@@ -2,11 +2,11 @@
 use crate::charts::push_when;
 use crate::loaders::push_who;
 use crate::maps::push_where;
-use crate::numbers::{Count, Size};
 use crate::replay::Replay;
 use crate::settings::{policy_word, push_settings};
 use crate::style::STYLE;
-use crate::tiles::{mark_class, push_problem};
+use crate::tiles::{mark_words, push_problem};
+use crate::writer::Writer;
 use ms_base::Settings;
 use ms_course::Course;
 use ms_loaders::Totals;
@@ -51,122 +51,105 @@ pub fn page(
     end: &Totals,
     names: &BTreeMap<u16, String>,
 ) -> Result<String, AllocError> {
-    let mut text = room;
-    text.clear();
-    fill(alloc, &mut text, settings, course, end, names)?;
-    Ok(text)
+    let mut page = Writer::new(room);
+    fill(alloc, &mut page, settings, course, end, names)?;
+    page.finish()
 }
 
-/// Appends the page.
+/// Appends the page; an error means that a growth of the values that it shows was refused.
 fn fill(
     alloc: Global,
-    text: &mut String,
+    page: &mut Writer,
     settings: &Settings,
     course: &Course,
     end: &Totals,
     names: &BTreeMap<u16, String>,
 ) -> Result<(), AllocError> {
     let picture = Picture::new(alloc, settings, course, end)?;
-    let replay = Replay {
-        alloc,
-        settings,
-        course,
-        end,
-        picture: &picture,
-        names,
-    };
-    push_page(text, &replay)
+    let replay = Replay::new(alloc, settings, course, end, &picture, names);
+    push_page(page, &replay);
+    Ok(())
 }
 
 /// Appends all parts in their order.
-fn push_page(text: &mut String, replay: &Replay<'_>) -> Result<(), AllocError> {
-    push_head(text, replay)?;
-    push_problem(text, replay)?;
-    push_when(text, replay)?;
-    push_who(text, replay)?;
-    push_where(text, replay)?;
-    push_settings(text, replay)?;
-    text.push_str(FOOT)
-}
-
-/// Appends the head: what was run, and the verdict.
-fn push_head(text: &mut String, replay: &Replay<'_>) -> Result<(), AllocError> {
-    text.push_str(HEAD)?;
-    text.push_str(STYLE)?;
-    text.push_str(BODY)?;
-    push_run(text, replay)?;
-    push_verdict(text, &replay.picture.tiles)?;
-    text.push_str("</header>\n<main>\n")
+fn push_page(page: &mut Writer, replay: &Replay<'_>) {
+    page.text(HEAD).text(STYLE).text(BODY);
+    push_run(page, replay);
+    push_verdict(page, &replay.picture.tiles);
+    page.text("</header>\n<main>\n");
+    push_problem(page, replay);
+    push_when(page, replay);
+    push_who(page, replay);
+    push_where(page, replay);
+    push_settings(page, replay);
+    page.text(FOOT);
 }
 
 /// Appends the line that says what was run.
-fn push_run(text: &mut String, replay: &Replay<'_>) -> Result<(), AllocError> {
+fn push_run(page: &mut Writer, replay: &Replay<'_>) {
     let settings = replay.settings;
-    write!(
-        text,
-        "<p>{}, policy {}, limit {}, {}, ",
-        Count(replay.lines(), "line", "lines"),
-        policy_word(settings.policy),
-        Size(replay.facts().limit),
-        Count(u64::from(settings.nodes), "node", "nodes")
-    )?;
+    page.text("<p>")
+        .count(replay.lines, "line", "lines")
+        .text(", policy ")
+        .text(policy_word(settings.policy))
+        .text(", limit ")
+        .size(replay.facts.limit)
+        .text(", ")
+        .count(u64::from(settings.nodes), "node", "nodes")
+        .text(", ");
     match settings.class_nodes {
-        0 => text.push_str("no class space")?,
-        nodes => write!(
-            text,
-            "{} of class space",
-            Count(u64::from(nodes), "node", "nodes")
-        )?,
-    }
-    writeln!(
-        text,
-        ", {}</p>\n<label for=\"words\">show words</label>",
-        Count(u64::from(settings.workers), "worker", "workers")
-    )
+        0 => page.text("no class space"),
+        nodes => page
+            .count(u64::from(nodes), "node", "nodes")
+            .text(" of class space"),
+    };
+    page.text(", ")
+        .count(u64::from(settings.workers), "worker", "workers")
+        .text("</p>\n<label for=\"words\">show words</label>\n");
 }
 
 /// Appends the verdict: the worst mark, and the headings of the tiles that have it.
-fn push_verdict(text: &mut String, tiles: &Tiles) -> Result<(), AllocError> {
+fn push_verdict(page: &mut Writer, tiles: &Tiles) {
     let worst = tiles.worst();
-    write!(text, r#"<p class="verdict {}">"#, mark_class(worst))?;
+    let (class, _) = mark_words(worst);
+    page.text(r#"<p class="verdict "#).text(class).text(r#"">"#);
     match worst {
-        Mark::Fine => text.push_str("Nothing stands out.")?,
+        Mark::Fine => {
+            page.text("Nothing stands out.");
+        }
         Mark::Look => {
-            text.push_str("No request was refused for want of room. Worth a look: ")?;
-            push_marked(text, tiles, worst)?;
+            page.text("No request was refused for want of room. Worth a look: ");
+            push_marked(page, tiles, worst);
         }
         Mark::Problem => {
-            text.push_str("Requests were refused for want of room. See: ")?;
-            push_marked(text, tiles, worst)?;
+            page.text("Requests were refused for want of room. See: ");
+            push_marked(page, tiles, worst);
         }
     }
-    text.push_str("</p>")
+    page.text("</p>");
 }
 
 /// Appends the headings of the tiles that have a mark.
-fn push_marked(text: &mut String, tiles: &Tiles, mark: Mark) -> Result<(), AllocError> {
-    let marks = [
-        ("Committed", tiles.committed.mark()),
-        ("Used of committed", tiles.used.mark()),
-        ("Reserved", tiles.reserved.mark()),
-        ("Class space", tiles.class_space.mark()),
-        ("Loaders", tiles.loaders.mark()),
-        ("Refused lines", tiles.refused.mark()),
-    ];
-    let mut later = false;
-    for (heading, its) in &marks {
-        if *its == mark {
-            push_heading(text, later, heading)?;
-            later = true;
-        }
-    }
-    text.push_str(".")
+fn push_marked(page: &mut Writer, tiles: &Tiles, mark: Mark) {
+    let before = push_if(page, tiles.committed.mark() == mark, "", "Committed");
+    let before = push_if(page, tiles.used.mark() == mark, before, "Used of committed");
+    let before = push_if(page, tiles.reserved.mark() == mark, before, "Reserved");
+    let before = push_if(
+        page,
+        tiles.class_space.mark() == mark,
+        before,
+        "Class space",
+    );
+    let before = push_if(page, tiles.loaders.mark() == mark, before, "Loaders");
+    push_if(page, tiles.refused.mark() == mark, before, "Refused lines");
+    page.text(".");
 }
 
-/// Appends a heading, after a comma where another stands before it.
-fn push_heading(text: &mut String, later: bool, heading: &str) -> Result<(), AllocError> {
-    if later {
-        text.push_str(", ")?;
+/// Appends a heading and what stands before it, if it is to; returns what stands before the next.
+fn push_if(page: &mut Writer, wanted: bool, before: &'static str, heading: &str) -> &'static str {
+    if wanted {
+        page.text(before).text(heading);
+        return ", ";
     }
-    text.push_str(heading)
+    before
 }

@@ -1,12 +1,9 @@
 //! What happened when: a lane each for unloads, purges, refusals and reports, the lines' numbers
 //! below them, and the columns in numbers.
-use crate::numbers::{Count, Grouped, Size};
-use crate::replay::Replay;
-use crate::series::Lines;
-use ms_base::{Reply, Step};
+use crate::writer::Writer;
+use ms_base::Step;
 use ms_course::{Asked, Column, Extent, Reason};
 use ms_page::scaled;
-use std::alloc::AllocError;
 
 /// What a lane counts.
 #[derive(Clone, Copy)]
@@ -21,23 +18,13 @@ enum Lane {
 const LANES: [Lane; 4] = [Lane::Unloads, Lane::Purges, Lane::Refused, Lane::Reports];
 
 impl Lane {
-    /// Returns its class in the style sheet, which is also the word for one.
-    fn word(self) -> &'static str {
+    /// Returns the word for one, which is also its class in the style sheet, and that for more.
+    fn words(self) -> (&'static str, &'static str) {
         match self {
-            Lane::Unloads => "unload",
-            Lane::Purges => "purge",
-            Lane::Refused => "refused",
-            Lane::Reports => "report",
-        }
-    }
-
-    /// Returns its label, which is also the word for more than one.
-    fn label(self) -> &'static str {
-        match self {
-            Lane::Unloads => "unloads",
-            Lane::Purges => "purges",
-            Lane::Refused => "refused",
-            Lane::Reports => "reports",
+            Lane::Unloads => ("unload", "unloads"),
+            Lane::Purges => ("purge", "purges"),
+            Lane::Refused => ("refused", "refused"),
+            Lane::Reports => ("report", "reports"),
         }
     }
 
@@ -51,195 +38,180 @@ impl Lane {
         })
     }
 
-    /// Returns how many all columns have.
-    fn sum(self, columns: &[Column]) -> u64 {
+    /// Returns how many all columns have, and the most that one has.
+    fn sum_and_most(self, columns: &[Column]) -> (u64, u64) {
         let mut sum: u64 = 0;
-        for column in columns {
-            sum = sum.saturating_add(self.count(column));
-        }
-        sum
-    }
-
-    /// Returns the most that a column has.
-    fn most(self, columns: &[Column]) -> u64 {
         let mut most: u64 = 0;
         for column in columns {
-            most = most.max(self.count(column));
+            let count = self.count(column);
+            sum = sum.saturating_add(count);
+            most = most.max(count);
         }
-        most
+        (sum, most)
     }
 }
 
 /// Appends the lanes.
-pub(crate) fn push_lanes(text: &mut String, columns: &[Column]) -> Result<(), AllocError> {
+pub(crate) fn push_lanes(page: &mut Writer, columns: &[Column]) {
     for lane in LANES {
-        push_lane(text, columns, lane)?;
+        push_lane(page, columns, lane);
     }
-    Ok(())
 }
 
 /// Appends a lane: a bar of 3 to 14 units where something happened, the highest where most did.
-fn push_lane(text: &mut String, columns: &[Column], lane: Lane) -> Result<(), AllocError> {
-    let label = lane.label();
-    let sum = Grouped(lane.sum(columns));
-    write!(
-        text,
-        r#"<div class="lane"><h4>{label} <b>{sum}</b></h4><svg viewBox="0 0 {} 16" preserveAspectRatio="none" height="16" role="img"><title>{label}: {sum}</title><path class="{}" d=""#,
-        columns.len().max(1),
-        lane.word()
-    )?;
-    push_bars(text, columns, lane)?;
-    text.push_str("\"/></svg></div>\n")
+fn push_lane(page: &mut Writer, columns: &[Column], lane: Lane) {
+    let (class, label) = lane.words();
+    let (sum, most) = lane.sum_and_most(columns);
+    let width = (columns.len() as u64).max(1);
+    page.text(r#"<div class="lane"><h4>"#)
+        .text(label)
+        .text(" <b>")
+        .number(sum)
+        .text(r#"</b></h4><svg viewBox="0 0 "#)
+        .digits(width)
+        .text(r#" 16" preserveAspectRatio="none" height="16" role="img"><title>"#)
+        .text(label)
+        .text(": ")
+        .number(sum)
+        .text(r#"</title><path class=""#)
+        .text(class)
+        .text(r#"" d=""#);
+    let mut before: u64 = 0;
+    for column in columns {
+        push_bar(page, before, lane.count(column), most);
+        before = before.saturating_add(1);
+    }
+    page.text("\"/></svg></div>\n");
 }
 
-/// Appends the bars of a lane.
-fn push_bars(text: &mut String, columns: &[Column], lane: Lane) -> Result<(), AllocError> {
-    let most = lane.most(columns);
-    for (before, column) in columns.iter().enumerate() {
-        let count = lane.count(column);
-        if count > 0 {
-            let down = 14_u64.saturating_sub(scaled(count, most, 12));
-            write!(text, "M{before} 16V{down}H{}V16Z", before + 1)?;
-        }
+/// Appends the bar of a column after so many, where it has something.
+fn push_bar(page: &mut Writer, before: u64, count: u64, most: u64) {
+    if count > 0 {
+        page.text("M")
+            .digits(before)
+            .text(" 16V")
+            .digits(14_u64.saturating_sub(scaled(count, most, 12)))
+            .text("H")
+            .digits(before.saturating_add(1))
+            .text("V16Z");
     }
-    Ok(())
 }
 
 /// Appends the numbers of lines below the charts: at each quarter that of the first line of the
 /// column there, and at the end that of the last line. Few lines have the first and the last alone.
-pub(crate) fn push_axis(text: &mut String, replay: &Replay<'_>) -> Result<(), AllocError> {
-    let columns = replay.columns();
-    text.push_str(r#"<svg class="axis" height="20" aria-hidden="true">"#)?;
-    push_quarter(text, columns, 0, "line ")?;
+pub(crate) fn push_axis(page: &mut Writer, columns: &[Column]) {
+    page.text(r#"<svg class="axis" height="20" aria-hidden="true">"#);
+    push_quarter(page, columns, 0, "line ");
     if columns.len() >= 8 {
-        push_quarter(text, columns, 1, "")?;
-        push_quarter(text, columns, 2, "")?;
-        push_quarter(text, columns, 3, "")?;
+        push_quarter(page, columns, 1, "");
+        push_quarter(page, columns, 2, "");
+        push_quarter(page, columns, 3, "");
     }
     if let Some(column) = columns.last() {
-        write!(
-            text,
-            r#"<text class="q4" x="100%" y="14">{}</text>"#,
-            Grouped(u64::from(column.last_line))
-        )?;
+        page.text(r#"<text class="q4" x="100%" y="14">"#)
+            .number(u64::from(column.last_line))
+            .text("</text>");
     }
-    text.push_str("</svg>\n")
+    page.text("</svg>\n");
 }
 
 /// Appends the number of a line at so many quarters of the width.
-fn push_quarter(
-    text: &mut String,
-    columns: &[Column],
-    quarters: u64,
-    word: &str,
-) -> Result<(), AllocError> {
-    let at = (columns.len() as u64).saturating_mul(quarters) / 4;
-    let Some(column) = columns.get(at as usize) else {
-        return Ok(());
-    };
-    write!(
-        text,
-        r#"<text class="q{quarters}" x="{}%" y="14">{word}{}</text>"#,
-        quarters.saturating_mul(25),
-        Grouped(u64::from(column.first_line))
-    )
+fn push_quarter(page: &mut Writer, columns: &[Column], quarters: usize, word: &str) {
+    let at = columns.len().saturating_mul(quarters) / 4;
+    if let Some(column) = columns.get(at) {
+        page.text(r#"<text class="q"#)
+            .digits(quarters as u64)
+            .text(r#"" x=""#)
+            .digits((quarters as u64).saturating_mul(25))
+            .text(r#"%" y="14">"#)
+            .text(word)
+            .number(u64::from(column.first_line))
+            .text("</text>");
+    }
 }
 
 /// Appends the columns in numbers, which lie over the charts and appear where one points.
-pub(crate) fn push_columns(text: &mut String, replay: &Replay<'_>) -> Result<(), AllocError> {
-    let class_space = replay.settings.class_nodes > 0;
-    text.push_str("<ol class=\"cols\" aria-label=\"The columns in numbers\">\n")?;
-    for column in replay.columns() {
-        push_column(text, column, class_space)?;
+pub(crate) fn push_columns(page: &mut Writer, columns: &[Column], class_space: bool) {
+    page.text("<ol class=\"cols\" aria-label=\"The columns in numbers\">\n");
+    for column in columns {
+        push_column(page, column, class_space);
     }
-    text.push_str("</ol>")
+    page.text("</ol>");
 }
 
 /// Appends a column in numbers.
-fn push_column(text: &mut String, column: &Column, class_space: bool) -> Result<(), AllocError> {
-    write!(text, "<li><span>{}", Lines::of(column))?;
-    if column.lines == 1 {
-        push_line(text, column)?;
-    }
+fn push_column(page: &mut Writer, column: &Column, class_space: bool) {
     let most = &column.most;
-    text.push_str(": ")?;
-    push_extent(text, &most.both)?;
+    page.text("<li><span>").lines(column);
+    if column.lines == 1 {
+        push_line(page, column);
+    }
+    page.text(": ");
+    push_extent(page, &most.both);
     if class_space {
-        text.push_str("; class space ")?;
-        push_extent(text, &most.class_space)?;
+        page.text("; class space ");
+        push_extent(page, &most.class_space);
     }
-    write!(
-        text,
-        "; reserved {}; {}",
-        Size(most.both.reserved),
-        Count(most.loaders, "loader", "loaders")
-    )?;
+    page.text("; reserved ")
+        .size(most.both.reserved)
+        .text("; ")
+        .count(most.loaders, "loader", "loaders");
     if column.lines > 1 {
-        push_counts(text, column)?;
+        push_counts(page, column);
     }
-    text.push_str("</span></li>\n")
+    page.text("</span></li>\n");
 }
 
 /// Appends the amounts of a space that are in use.
-fn push_extent(text: &mut String, extent: &Extent) -> Result<(), AllocError> {
-    write!(
-        text,
-        "committed {}, used {}, live {}",
-        Size(extent.committed),
-        Size(extent.used),
-        Size(extent.live)
-    )
+fn push_extent(page: &mut Writer, extent: &Extent) {
+    page.text("committed ")
+        .size(extent.committed)
+        .text(", used ")
+        .size(extent.used)
+        .text(", live ")
+        .size(extent.live);
 }
 
 /// Appends what happened in a column of several lines.
-fn push_counts(text: &mut String, column: &Column) -> Result<(), AllocError> {
+fn push_counts(page: &mut Writer, column: &Column) {
     for lane in LANES {
+        let (one, more) = lane.words();
         let count = lane.count(column);
         if count > 0 {
-            write!(text, "; {}", Count(count, lane.word(), lane.label()))?;
+            page.text("; ").count(count, one, more);
         }
     }
-    Ok(())
 }
 
 /// Appends what a column's one line asks, and why it was refused, if it was.
-fn push_line(text: &mut String, column: &Column) -> Result<(), AllocError> {
-    let (Some(asked), Some(reply)) = (column.asked, column.reply) else {
-        return Ok(());
-    };
-    write!(text, ", {}", command_word(&asked))?;
-    match reason_word(&asked, &reply) {
-        Some(word) => write!(text, " refused: {word}"),
-        None => Ok(()),
+fn push_line(page: &mut Writer, column: &Column) {
+    if let (Some(asked), Some(reply)) = (column.asked, column.reply) {
+        page.text(", ").text(command_word(&asked));
+        if let Some(reason) = Reason::of_reply(&asked, &reply) {
+            page.text(" refused: ").text(reason_word(reason));
+        }
     }
 }
 
 /// Returns the word of a line's command.
 fn command_word(asked: &Asked) -> &'static str {
     match asked {
-        Asked::Step(step) => step_word(step),
+        Asked::Step(Step::New { .. }) => "new",
+        Asked::Step(Step::Alloc { .. }) => "alloc",
+        Asked::Step(Step::Calloc { .. }) => "calloc",
+        Asked::Step(Step::Write { .. }) => "write",
+        Asked::Step(Step::Read { .. }) => "read",
+        Asked::Step(Step::Free { .. }) => "free",
+        Asked::Step(Step::Unload { .. }) => "unload",
+        Asked::Step(Step::Purge) => "purge",
         Asked::Sync => "sync",
         Asked::Report => "report",
     }
 }
 
-/// Returns the word of a step's command.
-fn step_word(step: &Step) -> &'static str {
-    match step {
-        Step::New { .. } => "new",
-        Step::Alloc { .. } => "alloc",
-        Step::Calloc { .. } => "calloc",
-        Step::Write { .. } => "write",
-        Step::Read { .. } => "read",
-        Step::Free { .. } => "free",
-        Step::Unload { .. } => "unload",
-        Step::Purge => "purge",
-    }
-}
-
 /// Returns the name under which a line was refused.
-fn reason_word(asked: &Asked, reply: &Reply) -> Option<&'static str> {
-    let word = match Reason::of_reply(asked, reply)? {
+pub(crate) fn reason_word(reason: Reason) -> &'static str {
+    match reason {
         Reason::LoaderExists => "LoaderExists",
         Reason::IdsUsedUp => "IdsUsedUp",
         Reason::NoLoader => "NoLoader",
@@ -251,6 +223,5 @@ fn reason_word(asked: &Asked, reply: &Reply) -> Option<&'static str> {
         Reason::CommitLimit => "CommitLimit",
         Reason::NoBlock => "NoBlock",
         Reason::OutOfRange => "OutOfRange",
-    };
-    Some(word)
+    }
 }

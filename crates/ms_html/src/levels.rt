@@ -1,49 +1,48 @@
 //! Chunks by size: how many are held and how many parts are free at each level, with bars by their
 //! words.
-use crate::numbers::{Both, NumberCell, Size};
 use crate::replay::Replay;
+use crate::writer::Writer;
 use ms_base::ROOT_WORDS;
 use ms_loaders::SpaceTotals;
 use ms_page::scaled;
-use std::alloc::AllocError;
 
 /// The units of a bar.
 const BAR: u64 = 160;
 
-/// Appends the tables, one beside the other where there is a class space.
-pub(crate) fn push_levels(text: &mut String, replay: &Replay<'_>) -> Result<(), AllocError> {
-    text.push_str("<div class=\"pair\">")?;
-    push_table(text, "Chunks by size", &replay.end.space)?;
-    if replay.settings.class_nodes > 0 {
-        push_table(text, "Class chunks by size", &replay.end.class_space)?;
-    }
-    text.push_str("</div>")
-}
-
-/// Appends the table of a space.
-fn push_table(text: &mut String, heading: &str, space: &SpaceTotals) -> Result<(), AllocError> {
-    write!(
-        text,
-        r#"<div class="wide" tabindex="0" role="region" aria-label="{heading}"><table class="levels"><caption>{heading}</caption>
+/// From the heading of a table to its rows.
+const HEADS: &str = r#"</caption>
 <thead><tr><th scope="col">chunk</th><th scope="col">held</th><th scope="col" class="left"></th><th scope="col">free</th><th scope="col" class="left"></th></tr></thead>
-<tbody>"#
-    )?;
-    push_rows(text, space)?;
-    text.push_str("</tbody></table>\n</div>")
+<tbody>"#;
+
+/// Appends the tables, one beside the other where there is a class space.
+pub(crate) fn push_levels(page: &mut Writer, replay: &Replay<'_>) {
+    page.text("<div class=\"pair\">");
+    push_table(page, "Chunks by size", &replay.end.space);
+    if replay.has_class_space {
+        push_table(page, "Class chunks by size", &replay.end.class_space);
+    }
+    page.text("</div>");
 }
 
-/// Appends a row for each level, from the largest.
-fn push_rows(text: &mut String, space: &SpaceTotals) -> Result<(), AllocError> {
+/// Appends the table of a space, a row for each level from the largest.
+fn push_table(page: &mut Writer, heading: &str, space: &SpaceTotals) {
     let most = most_words(&space.held).max(most_words(&space.free));
+    page.text(r#"<div class="wide" tabindex="0" role="region" aria-label=""#)
+        .text(heading)
+        .text(r#""><table class="levels"><caption>"#)
+        .text(heading)
+        .text(HEADS);
     let mut words = ROOT_WORDS;
     for (held, free) in space.held.iter().zip(space.free.iter()) {
-        write!(text, r#"<tr><th scope="row">{}</th>"#, Both(words))?;
-        push_chunks(text, "used", u64::from(*held), words, most)?;
-        push_chunks(text, "free", u64::from(*free), words, most)?;
-        text.push_str("</tr>\n")?;
+        page.text(r#"<tr><th scope="row">"#)
+            .both(words)
+            .text("</th>");
+        push_chunks(page, "used", u64::from(*held), words, most);
+        push_chunks(page, "free", u64::from(*free), words, most);
+        page.text("</tr>\n");
         words /= 2;
     }
-    Ok(())
+    page.text("</tbody></table>\n</div>");
 }
 
 /// Returns the most words that chunks of one level have, by how many there are of each.
@@ -58,19 +57,16 @@ fn most_words(chunks: &[u32; 13]) -> u64 {
 }
 
 /// Appends how many chunks there are of so many words, and the bar of all their words.
-fn push_chunks(
-    text: &mut String,
-    class: &str,
-    number: u64,
-    words: u64,
-    most: u64,
-) -> Result<(), AllocError> {
+fn push_chunks(page: &mut Writer, class: &str, number: u64, words: u64, most: u64) {
     let all = number.saturating_mul(words);
-    write!(
-        text,
-        r#"{}<td class="left"><svg class="bar" viewBox="0 0 160 8" preserveAspectRatio="none" role="img"><title>{}</title><path class="{class}" d="M0 0H{}V8H0Z"/></svg></td>"#,
-        NumberCell(number),
-        Size(all),
-        scaled(all, most, BAR)
-    )
+    page.number_cell(number)
+        .text(
+            r#"<td class="left"><svg class="bar" viewBox="0 0 160 8" preserveAspectRatio="none" role="img"><title>"#,
+        )
+        .size(all)
+        .text(r#"</title><path class=""#)
+        .text(class)
+        .text(r#"" d="M0 0H"#)
+        .digits(scaled(all, most, BAR))
+        .text(r#"V8H0Z"/></svg></td>"#);
 }

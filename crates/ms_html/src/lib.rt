@@ -31,5 +31,6 @@ mod settings;
 mod style;
 mod tiles;
 mod usage;
+mod writer;
 
 pub use frame::page;

@@ -5,12 +5,12 @@
 ghost use Rattle.std.specs.Prelude.{◌≡◌, ◌++◌, ◌⊎◌, OnOk, string_bytes};
 ghost use Rattle.ms_page.specs.Escape.{escaped};
 
-use crate::numbers::{Count, Grouped, NumberCell, Share, Size, WordsCell, narrow};
+use crate::numbers::narrow;
 use crate::replay::Replay;
+use crate::writer::Writer;
 use ms_base::Kind;
 use ms_page::{Growth, Holding, KindHolding, push_escaped, scaled};
 use std::alloc::{AllocError, Global};
-use std::fmt;
 use std::str::from_utf8;
 
 /// The units of a bar of what loaders hold.
@@ -19,14 +19,39 @@ const BAR: u64 = 160;
 /// The units of the bar from a loader's birth to the end.
 const LIFE: u64 = 512;
 
+/// From the beginning of the table of kinds to the headings of what they hold.
+const KIND_HEADS: &str =
+    r#"<div class="wide" tabindex="0" role="region" aria-label="Kinds"><table><caption>Kinds</caption>
+<thead><tr><th scope="col" class="left">kind</th><th scope="col">half-way</th><th scope="col">loaders</th><th scope="col">chunks</th>"#;
+
+/// The heading of a loader's name.
+const NAME_HEAD: &str = r#"<th scope="col" class="left">name</th>"#;
+
+/// The heading of the bar from a loader's birth on.
+const LIFE_HEAD: &str = r#"<th scope="col" class="left">until now</th>"#;
+
+/// The headings of the capacity.
+const CAPACITY_HEADS: &str = r#"<th scope="col">capacity</th><th scope="col">of all</th>"#;
+
+/// The heading of the bar of what is held.
+const BAR_HEAD: &str = r#"<th scope="col" class="left">used and live of it</th>"#;
+
+/// The other headings of what is held, to the rows.
+const HELD_HEADS: &str =
+    "<th scope=\"col\">used</th><th scope=\"col\">live</th><th scope=\"col\">free blocks</th><th scope=\"col\">waste</th><th scope=\"col\">growth</th></tr></thead>\n<tbody>";
+
 /// What a loader or a kind holds.
 #[derive(Clone, Copy)]
 struct Held {
+    /// The words of its chunks.
     capacity: u64,
     used: u64,
     live: u64,
+    /// The words of free blocks.
     free_blocks: u64,
+    /// The words that can't be salvaged.
     waste: u64,
+    /// How the live words grew.
     growth: Growth,
 }
 
@@ -69,50 +94,18 @@ fn growth(now: u64, then: u64) -> Growth {
     }
 }
 
-/// A table's cell with a growth.
-#[derive(Clone, Copy)]
-struct GrowthCell(Growth);
-
-impl fmt::Display for GrowthCell {
-    fn fmt<W: fmt::Write>(&self, f: &mut fmt::Formatter<W>) -> fmt::Result {
-        match self.0 {
-            Growth::New => write!(f, r#"<td class="new">new</td>"#),
-            Growth::More(words) => write!(
-                f,
-                r#"<td class="grew"><b>+{}</b><i>+{}</i></td>"#,
-                Size(words),
-                Grouped(words)
-            ),
-            Growth::Less(words) => write!(
-                f,
-                r#"<td class="shrank"><b>-{}</b><i>-{}</i></td>"#,
-                Size(words),
-                Grouped(words)
-            ),
-            Growth::Same => write!(f, r#"<td class="z">0</td>"#),
-        }
-    }
-}
-
 /// Appends the part.
-pub(crate) fn push_who(text: &mut String, replay: &Replay<'_>) -> Result<(), AllocError> {
-    text.push_str("<section><h2>Who?</h2>\n")?;
-    if replay.picture.loaders.is_empty() {
-        return text.push_str("<p class=\"soft\">No loader is there at the end.</p></section>\n");
+pub(crate) fn push_who(page: &mut Writer, replay: &Replay<'_>) {
+    page.text("<section><h2>Who?</h2>\n");
+    if replay.loaders.is_empty() {
+        page.text("<p class=\"soft\">No loader is there at the end.</p>");
+    } else {
+        let all = capacity_of(replay.loaders);
+        push_sums(page, replay, all);
+        push_kinds(page, replay, all);
+        push_tables(page, replay, all);
     }
-    let all = capacity_of(replay.picture.loaders.as_slice());
-    push_sums(text, replay, all)?;
-    push_kinds(text, replay, all)?;
-    push_largest(text, replay, all)?;
-    if has_more(replay) {
-        push_all(text, replay, all)?;
-    }
-    text.push_str("</section>\n")
-}
-
-/// Returns whether there are more loaders than the table of the largest has.
-fn has_more(replay: &Replay<'_>) -> bool {
-    replay.picture.loaders.len() > replay.picture.largest.len()
+    page.text("</section>\n");
 }
 
 /// Returns the words of the chunks that loaders hold.
@@ -125,102 +118,54 @@ fn capacity_of(loaders: &[Holding]) -> u64 {
 }
 
 /// Appends how much all loaders hold.
-fn push_sums(text: &mut String, replay: &Replay<'_>, all: u64) -> Result<(), AllocError> {
-    let loaders = replay.picture.loaders.len() as u64;
-    if has_more(replay) {
-        let largest = capacity_of(replay.picture.largest.as_slice());
-        write!(
-            text,
-            r#"<p class="soft">The {} largest of {} loaders hold {} of their {}, {}."#,
-            replay.picture.largest.len(),
-            Grouped(loaders),
-            Size(largest),
-            Size(all),
-            Share::of(largest, all)
-        )?;
+fn push_sums(page: &mut Writer, replay: &Replay<'_>, all: u64) {
+    let loaders = replay.loaders.len() as u64;
+    let shown = replay.largest.len() as u64;
+    page.text(r#"<p class="soft">"#);
+    if loaders > shown {
+        let largest = capacity_of(replay.largest);
+        page.text("The ")
+            .digits(shown)
+            .text(" largest of ")
+            .number(loaders)
+            .text(" loaders hold ")
+            .size(largest)
+            .text(" of their ")
+            .size(all)
+            .text(", ")
+            .share_of(largest, all);
     } else {
-        write!(
-            text,
-            r#"<p class="soft">{} {} of capacity."#,
-            Count(loaders, "loader holds", "loaders hold"),
-            Size(all)
-        )?;
+        page.count(loaders, "loader holds", "loaders hold")
+            .text(" ")
+            .size(all)
+            .text(" of capacity");
     }
-    writeln!(
-        text,
-        " Growth is that of live words since line {}, half-way from the first unload to the end.</p>",
-        Grouped(replay.half_line())
-    )
-}
-
-/// Appends the headings from the capacity on.
-fn push_heads(text: &mut String, bars: bool) -> Result<(), AllocError> {
-    text.push_str(r#"<th scope="col">capacity</th><th scope="col">of all</th>"#)?;
-    if bars {
-        text.push_str(r#"<th scope="col" class="left">used and live of it</th>"#)?;
-    }
-    text.push_str(
-        "<th scope=\"col\">used</th><th scope=\"col\">live</th><th scope=\"col\">free blocks</th><th scope=\"col\">waste</th><th scope=\"col\">growth</th></tr></thead>\n<tbody>",
-    )
-}
-
-/// Appends the cells from the capacity on, and the row's end.
-fn push_held(text: &mut String, held: &Held, all: u64, bars: bool) -> Result<(), AllocError> {
-    write!(
-        text,
-        "{}<td>{}</td>",
-        WordsCell(held.capacity),
-        Share::of(held.capacity, all)
-    )?;
-    if bars {
-        push_bar(text, held)?;
-    }
-    writeln!(
-        text,
-        "{}{}{}{}{}</tr>",
-        WordsCell(held.used),
-        WordsCell(held.live),
-        WordsCell(held.free_blocks),
-        WordsCell(held.waste),
-        GrowthCell(held.growth)
-    )
-}
-
-/// Appends the bar of used and live words over the capacity.
-fn push_bar(text: &mut String, held: &Held) -> Result<(), AllocError> {
-    write!(
-        text,
-        r#"<td class="left"><svg class="bar" viewBox="0 0 160 8" preserveAspectRatio="none" aria-hidden="true"><path class="committed" d="M0 0H{}V8H0Z"/><path class="used" d="M0 0H{}V8H0Z"/><path class="live" d="M0 0H{}V8H0Z"/></svg></td>"#,
-        scaled(held.capacity, held.capacity, BAR),
-        scaled(held.used, held.capacity, BAR),
-        scaled(held.live, held.capacity, BAR)
-    )
+    page.text(". Growth is that of live words since line ")
+        .number(replay.half_line)
+        .text(", half-way from the first unload to the end.</p>\n");
 }
 
 /// Appends the table of kinds.
-fn push_kinds(text: &mut String, replay: &Replay<'_>, all: u64) -> Result<(), AllocError> {
-    text.push_str(
-        r#"<div class="wide" tabindex="0" role="region" aria-label="Kinds"><table><caption>Kinds</caption>
-<thead><tr><th scope="col" class="left">kind</th><th scope="col">half-way</th><th scope="col">loaders</th><th scope="col">chunks</th>"#,
-    )?;
-    push_heads(text, true)?;
+fn push_kinds(page: &mut Writer, replay: &Replay<'_>, all: u64) {
+    page.text(KIND_HEADS)
+        .text(CAPACITY_HEADS)
+        .text(BAR_HEAD)
+        .text(HELD_HEADS);
     for kind in &replay.picture.kinds {
-        push_kind(text, kind, all)?;
+        push_kind(page, kind, all);
     }
-    text.push_str("</tbody></table></div>\n")
+    page.text("</tbody></table></div>\n");
 }
 
 /// Appends the row of a kind.
-fn push_kind(text: &mut String, kind: &KindHolding, all: u64) -> Result<(), AllocError> {
-    write!(
-        text,
-        r#"<tr><th scope="row" class="left">{}</th>{}{}{}"#,
-        kind_word(kind.kind),
-        NumberCell(kind.loaders_then),
-        NumberCell(kind.totals.loaders),
-        NumberCell(narrow(kind.totals.chunks))
-    )?;
-    push_held(text, &Held::by_kind(kind), all, true)
+fn push_kind(page: &mut Writer, kind: &KindHolding, all: u64) {
+    page.text(r#"<tr><th scope="row" class="left">"#)
+        .text(kind_word(kind.kind))
+        .text("</th>")
+        .number_cell(kind.loaders_then)
+        .number_cell(kind.totals.loaders)
+        .number_cell(narrow(kind.totals.chunks));
+    push_held(page, &Held::by_kind(kind), all, true);
 }
 
 /// Returns the word of a kind.
@@ -233,84 +178,139 @@ fn kind_word(kind: Kind) -> &'static str {
     }
 }
 
-/// Appends the table of the largest loaders, or of all where there are few.
-fn push_largest(text: &mut String, replay: &Replay<'_>, all: u64) -> Result<(), AllocError> {
-    let caption = if has_more(replay) {
+/// Appends the table of the largest loaders, and where there are more that of all, which is folded.
+fn push_tables(page: &mut Writer, replay: &Replay<'_>, all: u64) {
+    let loaders = replay.loaders.len() as u64;
+    let more = loaders > replay.largest.len() as u64;
+    let caption = if more {
         "The largest loaders"
     } else {
         "Loaders"
     };
-    write!(
-        text,
-        r#"<div class="wide" tabindex="0" role="region" aria-label="Loaders"><table><caption>{caption}</caption>
-<thead><tr>"#
-    )?;
-    push_loader_heads(text, replay)?;
-    text.push_str(r#"<th scope="col" class="left">until now</th><th scope="col">chunks</th>"#)?;
-    push_heads(text, true)?;
-    for loader in &replay.picture.largest {
-        push_loader(text, replay, loader)?;
-        push_life(text, u64::from(loader.since.position), replay.lines())?;
-        write!(text, "{}", NumberCell(loader.chunks))?;
-        push_held(text, &Held::by_loader(loader), all, true)?;
-    }
-    text.push_str("</tbody></table></div>\n")
-}
-
-/// Appends the table of all loaders, which is folded.
-fn push_all(text: &mut String, replay: &Replay<'_>, all: u64) -> Result<(), AllocError> {
-    write!(
-        text,
-        r#"<details><summary>All {} loaders, by name</summary>
+    page.text(
+        r#"<div class="wide" tabindex="0" role="region" aria-label="Loaders"><table><caption>"#,
+    ).text(caption)
+        .text("</caption>\n<thead><tr>");
+    push_table(page, replay, replay.largest, all, true);
+    page.text("</tbody></table></div>\n");
+    if more {
+        page.text("<details><summary>All ").number(loaders).text(
+            r#" loaders, by name</summary>
 <div class="wide" tabindex="0" role="region" aria-label="All loaders"><table>
 <thead><tr>"#,
-        Grouped(replay.picture.loaders.len() as u64)
-    )?;
-    push_loader_heads(text, replay)?;
-    text.push_str(r#"<th scope="col">chunks</th>"#)?;
-    push_heads(text, false)?;
-    for loader in &replay.picture.loaders {
-        push_loader(text, replay, loader)?;
-        write!(text, "{}", NumberCell(loader.chunks))?;
-        push_held(text, &Held::by_loader(loader), all, false)?;
+        );
+        push_table(page, replay, replay.loaders, all, false);
+        page.text("</tbody></table></div></details>\n");
     }
-    text.push_str("</tbody></table></div></details>\n")
 }
 
-/// Appends the headings of what a loader is.
-fn push_loader_heads(text: &mut String, replay: &Replay<'_>) -> Result<(), AllocError> {
-    text.push_str(r#"<th scope="col">loader</th>"#)?;
-    if !replay.names.is_empty() {
-        text.push_str(r#"<th scope="col" class="left">name</th>"#)?;
+/// Appends a table of loaders from its headings on, with bars or without.
+fn push_table(page: &mut Writer, replay: &Replay<'_>, loaders: &[Holding], all: u64, bars: bool) {
+    let name = if replay.is_named { NAME_HEAD } else { "" };
+    let life = if bars { LIFE_HEAD } else { "" };
+    let bar = if bars { BAR_HEAD } else { "" };
+    page.text(r#"<th scope="col">loader</th>"#)
+        .text(name)
+        .text(r#"<th scope="col" class="left">kind</th><th scope="col">since line</th>"#)
+        .text(life)
+        .text(r#"<th scope="col">chunks</th>"#)
+        .text(CAPACITY_HEADS)
+        .text(bar)
+        .text(HELD_HEADS);
+    for loader in loaders {
+        push_loader(page, replay, loader);
+        if bars {
+            push_life(page, u64::from(loader.since.position), replay.lines);
+        }
+        page.number_cell(loader.chunks);
+        push_held(page, &Held::by_loader(loader), all, bars);
     }
-    text.push_str(r#"<th scope="col" class="left">kind</th><th scope="col">since line</th>"#)
 }
 
-/// Appends the cells of what a loader is.
-fn push_loader(text: &mut String, replay: &Replay<'_>, loader: &Holding) -> Result<(), AllocError> {
-    write!(text, r#"<tr><th scope="row">{}</th>"#, loader.name)?;
-    if !replay.names.is_empty() {
-        push_name_cell(text, replay, loader.name)?;
+/// Appends the cells of what a loader is. The cell of its name is empty where the input has none.
+fn push_loader(page: &mut Writer, replay: &Replay<'_>, loader: &Holding) {
+    page.text(r#"<tr><th scope="row">"#)
+        .digits(u64::from(loader.name))
+        .text("</th>");
+    if replay.is_named {
+        page.text(r#"<td class="left name">"#);
+        if let Some(name) = replay.names.get(&loader.name) {
+            page.name(replay.alloc, name);
+        }
+        page.text("</td>");
     }
-    write!(
-        text,
-        r#"<td class="left">{}</td><td>{}</td>"#,
-        kind_word(loader.kind),
-        Grouped(u64::from(loader.since.line))
-    )
+    page.text(r#"<td class="left">"#)
+        .text(kind_word(loader.kind))
+        .text("</td><td>")
+        .number(u64::from(loader.since.line))
+        .text("</td>");
 }
 
-/// Appends the cell of a loader's name, which is empty where the input has none.
-fn push_name_cell(text: &mut String, replay: &Replay<'_>, loader: u16) -> Result<(), AllocError> {
-    text.push_str(r#"<td class="left name">"#)?;
-    if let Some(name) = replay.names.get(&loader) {
-        push_name(replay.alloc, text, name)?;
+/// Appends the cells from the capacity on, and the row's end.
+fn push_held(page: &mut Writer, held: &Held, all: u64, bars: bool) {
+    page.words_cell(held.capacity)
+        .text("<td>")
+        .share_of(held.capacity, all)
+        .text("</td>");
+    if bars {
+        push_bar(page, held);
     }
-    text.push_str("</td>")
+    page.words_cell(held.used)
+        .words_cell(held.live)
+        .words_cell(held.free_blocks)
+        .words_cell(held.waste);
+    push_growth(page, held.growth);
+    page.text("</tr>\n");
+}
+
+/// Appends a table's cell with a growth.
+fn push_growth(page: &mut Writer, growth: Growth) {
+    match growth {
+        Growth::New => page.text(r#"<td class="new">new</td>"#),
+        Growth::More(words) => page
+            .text(r#"<td class="grew"><b>+"#)
+            .size(words)
+            .text("</b><i>+")
+            .number(words)
+            .text("</i></td>"),
+        Growth::Less(words) => page
+            .text(r#"<td class="shrank"><b>-"#)
+            .size(words)
+            .text("</b><i>-")
+            .number(words)
+            .text("</i></td>"),
+        Growth::Same => page.text(r#"<td class="z">0</td>"#),
+    };
+}
+
+/// Appends the bar of used and live words over the capacity.
+fn push_bar(page: &mut Writer, held: &Held) {
+    page.text(
+        r#"<td class="left"><svg class="bar" viewBox="0 0 160 8" preserveAspectRatio="none" aria-hidden="true"><path class="committed" d="M0 0H"#,
+    ).digits(scaled(held.capacity, held.capacity, BAR))
+        .text(r#"V8H0Z"/><path class="used" d="M0 0H"#)
+        .digits(scaled(held.used, held.capacity, BAR))
+        .text(r#"V8H0Z"/><path class="live" d="M0 0H"#)
+        .digits(scaled(held.live, held.capacity, BAR))
+        .text(r#"V8H0Z"/></svg></td>"#);
+}
+
+/// Appends the bar from a loader's birth to the end.
+fn push_life(page: &mut Writer, position: u64, lines: u64) {
+    let birth = position
+        .saturating_mul(LIFE)
+        .checked_div(lines)
+        .unwrap_or(0);
+    page.text(
+        r#"<td class="left"><svg class="life" viewBox="0 0 512 8" preserveAspectRatio="none" aria-hidden="true"><path class="stay" d="M"#,
+    ).digits(birth)
+        .text(" 0H512V8H")
+        .digits(birth)
+        .text(r#"Z"/></svg></td>"#);
 }
 
 /// Appends a name as escaped text: of the name itself nothing else ever stands in the page.
-fn push_name(alloc: Global, text: &mut String, name: &str) -> Result<(), AllocError>
+pub(crate) fn push_name(alloc: Global, text: &mut String, name: &str) -> Result<(), AllocError>
     ensures { OnOk result ((string_bytes text.new ≡ string_bytes text.old ++ escaped name.now)
         ⊎ (string_bytes text.new ≡ string_bytes text.old)) }
 {
@@ -321,16 +321,4 @@ fn push_name(alloc: Global, text: &mut String, name: &str) -> Result<(), AllocEr
         // What stands for a byte of UTF-8 is that byte or ASCII, so this can't come.
         Err(_) => Ok(()),
     }
-}
-
-/// Appends the bar from a loader's birth to the end.
-fn push_life(text: &mut String, position: u64, lines: u64) -> Result<(), AllocError> {
-    let birth = position
-        .saturating_mul(LIFE)
-        .checked_div(lines)
-        .unwrap_or(0);
-    write!(
-        text,
-        r#"<td class="left"><svg class="life" viewBox="0 0 512 8" preserveAspectRatio="none" aria-hidden="true"><path class="stay" d="M{birth} 0H512V8H{birth}Z"/></svg></td>"#
-    )
 }

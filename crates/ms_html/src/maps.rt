@@ -7,12 +7,15 @@
 //!     +--------+ +--------+
 //!     3                         the slot
 use crate::levels::push_levels;
-use crate::numbers::{Count, Grouped, Size};
 use crate::replay::Replay;
+use crate::writer::Writer;
 use ms_base::SLOTS;
 use ms_page::CellCounts;
 use ms_pool::{Place, RootMap};
-use std::alloc::AllocError;
+
+/// What a map shows.
+const KEY: &str =
+    "<p class=\"soft\">Each node of 8 MB is two root chunks of 64 cells, in order of address; a cell is 64 KB. The number below is the slot of the node.</p>\n<ul class=\"cells\">";
 
 /// The words of a cell.
 const CELL_WORDS: u64 = 8192;
@@ -26,118 +29,114 @@ const STATES: [Place; 5] = [
     Place::LentWholly,
 ];
 
-/// Returns the class of a cell in the style sheet.
-fn cell_class(place: Place) -> &'static str {
+/// Returns the class of a cell in the style sheet, and what it is in words.
+fn cell_words(place: Place) -> (&'static str, &'static str) {
     match place {
-        Place::Free => "free",
-        Place::FreeCommitted => "idle",
-        Place::LentUncommitted => "lent",
-        Place::LentPartly => "part",
-        Place::LentWholly => "whole",
-    }
-}
-
-/// Returns what a cell is, in words.
-fn cell_words(place: Place) -> &'static str {
-    match place {
-        Place::Free => "free, not committed",
-        Place::FreeCommitted => "free, committed",
-        Place::LentUncommitted => "lent, not committed",
-        Place::LentPartly => "lent in part, committed",
-        Place::LentWholly => "lent as a whole, committed",
+        Place::Free => ("free", "free, not committed"),
+        Place::FreeCommitted => ("idle", "free, committed"),
+        Place::LentUncommitted => ("lent", "lent, not committed"),
+        Place::LentPartly => ("part", "lent in part, committed"),
+        Place::LentWholly => ("whole", "lent as a whole, committed"),
     }
 }
 
 /// Appends the part.
-pub(crate) fn push_where(text: &mut String, replay: &Replay<'_>) -> Result<(), AllocError> {
-    text.push_str("<section><h2>Where?</h2>\n")?;
+pub(crate) fn push_where(page: &mut Writer, replay: &Replay<'_>) {
+    page.text("<section><h2>Where?</h2>\n");
     match &replay.end.details {
         Some(details) if !details.roots.is_empty() => {
-            push_key(text, &replay.picture.cells)?;
-            push_maps(text, details.roots.as_slice())?;
-            push_levels(text, replay)?;
-            text.push_str("</section>\n")
+            push_key(page, &replay.picture.cells);
+            push_maps(page, details.roots.as_slice());
+            push_levels(page, replay);
         }
-        _ => text.push_str("<p class=\"soft\">No node is reserved.</p></section>\n"),
+        _ => {
+            page.text("<p class=\"soft\">No node is reserved.</p>");
+        }
     }
+    page.text("</section>\n");
 }
 
 /// Appends what a map shows, and how many cells are what.
-fn push_key(text: &mut String, cells: &CellCounts) -> Result<(), AllocError> {
-    text.push_str(
-        "<p class=\"soft\">Each node of 8 MB is two root chunks of 64 cells, in order of address; a cell is 64 KB. The number below is the slot of the node.</p>\n<ul class=\"cells\">",
-    )?;
-    push_count(text, Place::Free, cells.free)?;
-    push_count(text, Place::FreeCommitted, cells.free_committed)?;
-    push_count(text, Place::LentUncommitted, cells.lent_uncommitted)?;
-    push_count(text, Place::LentPartly, cells.lent_partly)?;
-    push_count(text, Place::LentWholly, cells.lent_wholly)?;
-    text.push_str("</ul>\n")
+fn push_key(page: &mut Writer, cells: &CellCounts) {
+    page.text(KEY);
+    push_count(page, Place::Free, cells.free);
+    push_count(page, Place::FreeCommitted, cells.free_committed);
+    push_count(page, Place::LentUncommitted, cells.lent_uncommitted);
+    push_count(page, Place::LentPartly, cells.lent_partly);
+    push_count(page, Place::LentWholly, cells.lent_wholly);
+    page.text("</ul>\n");
 }
 
 /// Appends how many cells are so.
-fn push_count(text: &mut String, place: Place, cells: u64) -> Result<(), AllocError> {
-    write!(
-        text,
-        r#"<li><span class="k-p-{}">{}</span> <b>{}</b> <small>{}</small></li>"#,
-        cell_class(place),
-        cell_words(place),
-        Size(cells.saturating_mul(CELL_WORDS)),
-        Grouped(cells)
-    )
+fn push_count(page: &mut Writer, place: Place, cells: u64) {
+    let (class, words) = cell_words(place);
+    page.text(r#"<li><span class="k-p-"#)
+        .text(class)
+        .text(r#"">"#)
+        .text(words)
+        .text("</span> <b>")
+        .size(cells.saturating_mul(CELL_WORDS))
+        .text("</b> <small>")
+        .number(cells)
+        .text("</small></li>");
 }
 
 /// Appends the maps of the nodes, those of the class space apart.
-fn push_maps(text: &mut String, roots: &[RootMap]) -> Result<(), AllocError> {
+fn push_maps(page: &mut Writer, roots: &[RootMap]) {
     let first_class_root = SLOTS * 2;
     let plain = roots.partition_point(|root| root.root < first_class_root);
-    push_space(text, "Metaspace", roots.get(..plain).unwrap_or(&[]))?;
-    push_space(text, "Class space", roots.get(plain..).unwrap_or(&[]))
+    push_space(page, "Metaspace", roots.get(..plain).unwrap_or(&[]));
+    push_space(page, "Class space", roots.get(plain..).unwrap_or(&[]));
 }
 
 /// Appends the maps of a space's nodes, where it has any.
-fn push_space(text: &mut String, heading: &str, roots: &[RootMap]) -> Result<(), AllocError> {
+fn push_space(page: &mut Writer, heading: &str, roots: &[RootMap]) {
     if roots.is_empty() {
-        return Ok(());
+        return;
     }
-    write!(text, "<h3>{heading}</h3>\n<div class=\"map\">")?;
+    page.text("<h3>")
+        .text(heading)
+        .text("</h3>\n<div class=\"map\">");
     for node in roots.chunks(2) {
-        push_node(text, node)?;
+        push_node(page, node);
     }
-    text.push_str("</div>\n")
+    page.text("</div>\n");
 }
 
 /// Appends the map of a node, by its roots.
-fn push_node(text: &mut String, roots: &[RootMap]) -> Result<(), AllocError> {
+fn push_node(page: &mut Writer, roots: &[RootMap]) {
     let Some(left) = roots.first() else {
-        return Ok(());
+        return;
     };
-    let slot = left.root / 2;
-    write!(
-        text,
-        r#"<figure><svg viewBox="0 0 17 8" role="img"><title>Slot {slot}, roots {} and {}: "#,
-        left.root,
-        left.root.saturating_add(1)
-    )?;
-    push_node_counts(text, roots)?;
-    text.push_str("</title>")?;
+    let root = u64::from(left.root);
+    page.text(r#"<figure><svg viewBox="0 0 17 8" role="img"><title>Slot "#)
+        .digits(root / 2)
+        .text(", roots ")
+        .digits(root)
+        .text(" and ")
+        .digits(root.saturating_add(1))
+        .text(": ");
+    push_node_counts(page, roots);
+    page.text("</title>");
     for place in STATES {
-        push_cells(text, roots, place)?;
+        push_cells(page, roots, place);
     }
-    writeln!(text, "</svg><figcaption>{slot}</figcaption></figure>")
+    page.text("</svg><figcaption>")
+        .digits(root / 2)
+        .text("</figcaption></figure>\n");
 }
 
 /// Appends how many cells of a node are what.
-fn push_node_counts(text: &mut String, roots: &[RootMap]) -> Result<(), AllocError> {
+fn push_node_counts(page: &mut Writer, roots: &[RootMap]) {
     let mut before = "";
     for place in STATES {
+        let (_, words) = cell_words(place);
         let cells = count(roots, place);
         if cells > 0 {
-            write!(text, "{before}{} {}", Grouped(cells), cell_words(place))?;
+            page.text(before).number(cells).text(" ").text(words);
             before = ", ";
         }
     }
-    Ok(())
 }
 
 /// Returns how many cells of some roots are so.
@@ -154,35 +153,31 @@ fn count(roots: &[RootMap], place: Place) -> u64 {
 }
 
 /// Appends the path of the cells that are so, where there is any.
-fn push_cells(text: &mut String, roots: &[RootMap], place: Place) -> Result<(), AllocError> {
+fn push_cells(page: &mut Writer, roots: &[RootMap], place: Place) {
     if count(roots, place) == 0 {
-        return Ok(());
+        return;
     }
-    write!(text, r#"<path class="p-{}" d=""#, cell_class(place))?;
+    let (class, _) = cell_words(place);
+    page.text(r#"<path class="p-"#).text(class).text(r#"" d=""#);
     let mut across = 0;
     for root in roots {
-        push_squares(text, root, place, across)?;
+        push_squares(page, root, place, across);
         across = 9;
     }
-    text.push_str("\"/>")
+    page.text("\"/>");
 }
 
 /// Appends the cells of a root that are so, from a column of the figure on.
-fn push_squares(
-    text: &mut String,
-    root: &RootMap,
-    place: Place,
-    across: usize,
-) -> Result<(), AllocError> {
-    for (number, its) in root.places.iter().enumerate() {
+fn push_squares(page: &mut Writer, root: &RootMap, place: Place, across: u64) {
+    let mut number: u64 = 0;
+    for its in &root.places {
         if *its == place {
-            write!(
-                text,
-                "M{} {}h1v1h-1z",
-                (number % 8).saturating_add(across),
-                number / 8
-            )?;
+            page.text("M")
+                .digits((number % 8).saturating_add(across))
+                .text(" ")
+                .digits(number / 8)
+                .text("h1v1h-1z");
         }
+        number = number.saturating_add(1);
     }
-    Ok(())
 }

@@ -2,12 +2,12 @@
 //!
 //!     words    100        8192       1310720
 //!     size     0.7 KB     64.0 KB    10.0 MB
-//!     grouped  100        8,192      1,310,720
+//!     number   100        8,192      1,310,720
 //!
 //! A size is in KB of 1024 bytes below a MB, and else in MB, cut off after one digit, as in the
-//! full report. Each is a `Display`, so that a template names it where it stands. Takes no memory.
+//! full report. Each is a part that a writer appends.
+use crate::writer::Writer;
 use ms_page::scaled;
-use std::fmt;
 
 /// The words of a KB.
 const KB: u64 = 128;
@@ -15,146 +15,101 @@ const KB: u64 = 128;
 /// The words of a MB.
 const MB: u64 = 131_072;
 
-/// A number with a comma before each group of three digits, up to four groups.
-#[derive(Clone, Copy)]
-pub(crate) struct Grouped(pub u64);
-
-impl fmt::Display for Grouped {
-    fn fmt<W: fmt::Write>(&self, f: &mut fmt::Formatter<W>) -> fmt::Result {
-        let number = self.0;
-        let (units, thousands, millions) = (
-            number % 1000,
-            number / 1000 % 1000,
-            number / 1_000_000 % 1000,
-        );
-        match number {
-            0..=999 => write!(f, "{number}"),
-            1_000..=999_999 => write!(f, "{thousands},{units:03}"),
-            1_000_000..=999_999_999 => write!(f, "{millions},{thousands:03},{units:03}"),
-            _ => write!(
-                f,
-                "{},{millions:03},{thousands:03},{units:03}",
-                number / 1_000_000_000
-            ),
-        }
-    }
-}
-
-/// Tenths, as a number with one digit after its point.
-#[derive(Clone, Copy)]
-struct Tenths(u64);
-
-impl fmt::Display for Tenths {
-    fn fmt<W: fmt::Write>(&self, f: &mut fmt::Formatter<W>) -> fmt::Result {
-        write!(f, "{}.{}", Grouped(self.0 / 10), self.0 % 10)
-    }
-}
-
-/// A number of words as a size for people.
-#[derive(Clone, Copy)]
-pub(crate) struct Size(pub u64);
-
-impl fmt::Display for Size {
-    fn fmt<W: fmt::Write>(&self, f: &mut fmt::Formatter<W>) -> fmt::Result {
-        let tenfold = self.0.saturating_mul(10);
-        if self.0 < MB {
-            write!(f, "{} KB", Tenths(tenfold / KB))
-        } else {
-            write!(f, "{} MB", Tenths(tenfold / MB))
-        }
-    }
-}
-
-/// A share in tenths of a per cent, cut off; a dash where there is none.
-#[derive(Clone, Copy)]
-pub(crate) struct Share(pub Option<u128>);
-
-impl Share {
-    /// Makes the share that a part is of a whole, in the same unit; none of nothing.
-    pub(crate) fn of(part: u64, whole: u64) -> Share {
-        Share((u128::from(part) * 1000).checked_div(u128::from(whole)))
-    }
-}
-
-impl fmt::Display for Share {
-    fn fmt<W: fmt::Write>(&self, f: &mut fmt::Formatter<W>) -> fmt::Result {
-        match self.0 {
-            Some(tenths) => write!(f, "{} %", Tenths(narrow(tenths))),
-            None => write!(f, "-"),
-        }
-    }
-}
-
-/// A size, and the words that take its place where the reader asks for words.
-#[derive(Clone, Copy)]
-pub(crate) struct Both(pub u64);
-
-impl fmt::Display for Both {
-    fn fmt<W: fmt::Write>(&self, f: &mut fmt::Formatter<W>) -> fmt::Result {
-        write!(f, "<b>{}</b><i>{}</i>", Size(self.0), Grouped(self.0))
-    }
-}
-
-/// A table's cell with a number of words, or a faint 0.
-#[derive(Clone, Copy)]
-pub(crate) struct WordsCell(pub u64);
-
-impl fmt::Display for WordsCell {
-    fn fmt<W: fmt::Write>(&self, f: &mut fmt::Formatter<W>) -> fmt::Result {
-        match self.0 {
-            0 => write!(f, r#"<td class="z">0</td>"#),
-            words => write!(f, "<td>{}</td>", Both(words)),
-        }
-    }
-}
-
-/// A table's cell with a number, or a faint 0.
-#[derive(Clone, Copy)]
-pub(crate) struct NumberCell(pub u64);
-
-impl fmt::Display for NumberCell {
-    fn fmt<W: fmt::Write>(&self, f: &mut fmt::Formatter<W>) -> fmt::Result {
-        match self.0 {
-            0 => write!(f, r#"<td class="z">0</td>"#),
-            number => write!(f, "<td>{}</td>", Grouped(number)),
-        }
-    }
-}
-
-/// A number with the word for one or for more.
-#[derive(Clone, Copy)]
-pub(crate) struct Count(pub u64, pub &'static str, pub &'static str);
-
-impl fmt::Display for Count {
-    fn fmt<W: fmt::Write>(&self, f: &mut fmt::Formatter<W>) -> fmt::Result {
-        let word = if self.0 == 1 { self.1 } else { self.2 };
-        write!(f, "{} {word}", Grouped(self.0))
-    }
-}
-
-/// A track with a part of a whole, and a mark for a peak where there is one; all in the same unit.
-#[derive(Clone, Copy)]
-pub(crate) struct Meter {
-    pub part: u64,
-    pub whole: u64,
-    pub peak: u64,
-}
-
-/// The units of a meter's track.
+/// The units of a track.
 const TRACK: u64 = 240;
 
-impl fmt::Display for Meter {
-    fn fmt<W: fmt::Write>(&self, f: &mut fmt::Formatter<W>) -> fmt::Result {
-        let now = scaled(self.part, self.whole, TRACK);
-        let peak = scaled(self.peak, self.whole, TRACK);
-        write!(
-            f,
-            r#"<svg class="meter" viewBox="0 0 240 6" preserveAspectRatio="none" aria-hidden="true"><path class="now" d="M0 0H{now}V6H0Z"/>"#
-        )?;
-        if self.peak > 0 {
-            write!(f, r#"<path class="peak" d="M{peak} 0V6"/>"#)?;
+impl Writer {
+    /// Appends a number with a comma before each group of three digits, up to four groups.
+    pub(crate) fn number(&mut self, number: u64) -> &mut Self {
+        let mut later = false;
+        for unit in [1_000_000_000_u64, 1_000_000, 1_000] {
+            let group = number / unit;
+            if later {
+                self.three_digits(group % 1000).text(",");
+            } else if group > 0 {
+                self.digits(group).text(",");
+                later = true;
+            }
         }
-        write!(f, "</svg>")
+        if later {
+            self.three_digits(number % 1000)
+        } else {
+            self.digits(number)
+        }
+    }
+
+    /// Appends tenths, as a number with one digit after its point.
+    fn tenths(&mut self, tenths: u64) -> &mut Self {
+        self.number(tenths / 10).text(".").digits(tenths % 10)
+    }
+
+    /// Appends a number of words as a size for people.
+    pub(crate) fn size(&mut self, words: u64) -> &mut Self {
+        let tenfold = words.saturating_mul(10);
+        if words < MB {
+            self.tenths(tenfold / KB).text(" KB")
+        } else {
+            self.tenths(tenfold / MB).text(" MB")
+        }
+    }
+
+    /// Appends a share in tenths of a per cent, or a dash where there is none.
+    pub(crate) fn share(&mut self, tenths: Option<u128>) -> &mut Self {
+        match tenths {
+            Some(tenths) => self.tenths(narrow(tenths)).text(" %"),
+            None => self.text("-"),
+        }
+    }
+
+    /// Appends the share that a part is of a whole, in the same unit; a dash for one of nothing.
+    pub(crate) fn share_of(&mut self, part: u64, whole: u64) -> &mut Self {
+        self.share((u128::from(part) * 1000).checked_div(u128::from(whole)))
+    }
+
+    /// Appends a size, and the words that take its place where the reader asks for words.
+    pub(crate) fn both(&mut self, words: u64) -> &mut Self {
+        self.text("<b>")
+            .size(words)
+            .text("</b><i>")
+            .number(words)
+            .text("</i>")
+    }
+
+    /// Appends a table's cell with a number of words, or a faint 0.
+    pub(crate) fn words_cell(&mut self, words: u64) -> &mut Self {
+        match words {
+            0 => self.text(r#"<td class="z">0</td>"#),
+            _ => self.text("<td>").both(words).text("</td>"),
+        }
+    }
+
+    /// Appends a table's cell with a number, or a faint 0.
+    pub(crate) fn number_cell(&mut self, number: u64) -> &mut Self {
+        match number {
+            0 => self.text(r#"<td class="z">0</td>"#),
+            _ => self.text("<td>").number(number).text("</td>"),
+        }
+    }
+
+    /// Appends a number with the word for one or for more.
+    pub(crate) fn count(&mut self, number: u64, one: &str, more: &str) -> &mut Self {
+        let word = if number == 1 { one } else { more };
+        self.number(number).text(" ").text(word)
+    }
+
+    /// Appends the end of a tile's value, and a track with a part of a whole and a mark for a peak
+    /// where there is one; all in the same unit.
+    pub(crate) fn track(&mut self, part: u64, whole: u64, peak: u64) -> &mut Self {
+        self.text(
+            "</small></p>\n<svg class=\"meter\" viewBox=\"0 0 240 6\" preserveAspectRatio=\"none\" aria-hidden=\"true\"><path class=\"now\" d=\"M0 0H",
+        ).digits(scaled(part, whole, TRACK))
+            .text(r#"V6H0Z"/>"#);
+        if peak > 0 {
+            self.text(r#"<path class="peak" d="M"#)
+                .digits(scaled(peak, whole, TRACK))
+                .text(r#" 0V6"/>"#);
+        }
+        self.text("</svg>\n")
     }
 }
 

@@ -2,7 +2,7 @@
 use ms_base::Settings;
 use ms_course::{Column, Course};
 use ms_loaders::Totals;
-use ms_page::{Facts, Picture};
+use ms_page::{Facts, Holding, Picture};
 use std::alloc::Global;
 use std::collections::BTreeMap;
 
@@ -16,28 +16,48 @@ pub(crate) struct Replay<'a> {
     pub end: &'a Totals,
     /// The values that the page shows.
     pub picture: &'a Picture,
-    /// Texts of the input for loaders, by the loaders' names.
+    /// Of these values the facts that the sentences have.
+    pub facts: &'a Facts,
+    /// The columns of the course.
+    pub columns: &'a [Column],
+    /// All loaders of the end, and the largest of them.
+    pub loaders: &'a [Holding],
+    pub largest: &'a [Holding],
+    /// Texts of the input for loaders, by the loaders' names, and whether there is any.
     pub names: &'a BTreeMap<u16, String>,
+    pub is_named: bool,
+    /// Whether the run has a class space.
+    pub has_class_space: bool,
+    /// How many command lines the run has, and the number of the one half-way.
+    pub lines: u64,
+    pub half_line: u64,
 }
 
-impl Replay<'_> {
-    /// Lends the facts that the sentences have.
-    pub(crate) fn facts(&self) -> &Facts {
-        &self.picture.facts
-    }
-
-    /// Lends the columns of the course.
-    pub(crate) fn columns(&self) -> &[Column] {
-        self.course.columns().columns()
-    }
-
-    /// Returns how many command lines the run has.
-    pub(crate) fn lines(&self) -> u64 {
-        u64::from(self.course.schedule().lines)
-    }
-
-    /// Returns the number of the line half-way.
-    pub(crate) fn half_line(&self) -> u64 {
-        u64::from(self.course.after_half().first_line)
+impl<'a> Replay<'a> {
+    /// Makes that of a run: its settings, its course, the totals of its end, and what shows them.
+    pub(crate) fn new(
+        alloc: Global,
+        settings: &'a Settings,
+        course: &'a Course,
+        end: &'a Totals,
+        picture: &'a Picture,
+        names: &'a BTreeMap<u16, String>,
+    ) -> Replay<'a> {
+        Replay {
+            alloc,
+            settings,
+            course,
+            end,
+            picture,
+            facts: &picture.facts,
+            columns: course.columns().columns(),
+            loaders: picture.loaders.as_slice(),
+            largest: picture.largest.as_slice(),
+            names,
+            is_named: !names.is_empty(),
+            has_class_space: settings.class_nodes > 0,
+            lines: u64::from(course.schedule().lines),
+            half_line: u64::from(course.after_half().first_line),
+        }
     }
 }

@@ -1,7 +1,6 @@
-//! The amounts that a chart follows over the columns.
-use crate::numbers::Grouped;
+//! The amounts that a chart follows over the columns, and the numbers of a column's lines.
+use crate::writer::Writer;
 use ms_course::{Column, Standing};
-use std::fmt;
 
 /// An amount that a chart follows over the columns.
 #[derive(Clone, Copy)]
@@ -46,30 +45,15 @@ impl Series {
     }
 }
 
-/// The numbers of a column's lines.
-#[derive(Clone, Copy)]
-pub(crate) struct Lines {
-    first: u32,
-    last: u32,
-}
-
-impl Lines {
-    /// Returns those of a column.
-    pub(crate) fn of(column: &Column) -> Lines {
-        Lines {
-            first: column.first_line,
-            last: column.last_line,
-        }
-    }
-}
-
-impl fmt::Display for Lines {
-    fn fmt<W: fmt::Write>(&self, f: &mut fmt::Formatter<W>) -> fmt::Result {
-        let first = Grouped(u64::from(self.first));
-        if self.first == self.last {
-            write!(f, "line {first}")
+impl Writer {
+    /// Appends the numbers of a column's lines.
+    pub(crate) fn lines(&mut self, column: &Column) -> &mut Self {
+        let first = u64::from(column.first_line);
+        let last = u64::from(column.last_line);
+        if first == last {
+            self.text("line ").number(first)
         } else {
-            write!(f, "lines {first} to {}", Grouped(u64::from(self.last)))
+            self.text("lines ").number(first).text(" to ").number(last)
         }
     }
 }

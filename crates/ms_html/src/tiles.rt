@@ -8,400 +8,328 @@
 //!     +--------------------------+
 //!
 //! Which case holds, `ms_page` says; here stand the words of each.
-use crate::numbers::{Count, Grouped, Meter, Share, Size, narrow};
+use crate::lanes::reason_word;
+use crate::numbers::narrow;
 use crate::replay::Replay;
+use crate::writer::Writer;
 use ms_base::NODE_WORDS;
 use ms_course::{Course, Reason};
 use ms_page::{
     ClassCase, CommittedCase, Facts, LoaderCase, Mark, RefusedCase, ReservedCase, UsedCase,
 };
-use std::alloc::AllocError;
+
+/// The reasons by which lines are counted, one of each name.
+const NAMED: [Reason; 11] = [
+    Reason::LoaderExists,
+    Reason::IdsUsedUp,
+    Reason::NoLoader,
+    Reason::BlockExists,
+    Reason::ZeroWords,
+    Reason::TooLarge,
+    Reason::OutOfMemory,
+    Reason::ReserveLimit,
+    Reason::CommitLimit,
+    Reason::NoBlock,
+    Reason::OutOfRange,
+];
 
 /// Appends the tiles.
-pub(crate) fn push_problem(text: &mut String, replay: &Replay<'_>) -> Result<(), AllocError> {
-    text.push_str("<section><h2>Is there a problem?</h2>\n<div class=\"tiles\">\n")?;
-    push_committed(text, replay)?;
-    push_used(text, replay)?;
-    push_reserved(text, replay)?;
-    push_class_space(text, replay)?;
-    push_loaders(text, replay)?;
-    push_refused(text, replay)?;
-    text.push_str("</div></section>\n")
+pub(crate) fn push_problem(page: &mut Writer, replay: &Replay<'_>) {
+    page.text("<section><h2>Is there a problem?</h2>\n<div class=\"tiles\">\n");
+    push_committed(page, replay);
+    push_used(page, replay);
+    push_reserved(page, replay);
+    push_class_space(page, replay);
+    push_loaders(page, replay);
+    push_refused(page, replay);
+    page.text("</div></section>\n");
 }
 
-/// Returns the class of a mark in the style sheet.
-pub(crate) fn mark_class(mark: Mark) -> &'static str {
+/// Returns the class of a mark in the style sheet, and its word.
+pub(crate) fn mark_words(mark: Mark) -> (&'static str, &'static str) {
     match mark {
-        Mark::Fine => "fine",
-        Mark::Look => "look",
-        Mark::Problem => "bad",
+        Mark::Fine => ("fine", "fine"),
+        Mark::Look => ("look", "look"),
+        Mark::Problem => ("bad", "problem"),
     }
 }
 
-/// Returns the word of a mark.
-fn mark_word(mark: Mark) -> &'static str {
-    match mark {
-        Mark::Fine => "fine",
-        Mark::Look => "look",
-        Mark::Problem => "problem",
-    }
-}
-
-/// Appends the heading of a tile, and its mark.
-fn push_heading(text: &mut String, heading: &str, mark: Mark) -> Result<(), AllocError> {
-    writeln!(
-        text,
-        r#"<div class="tile {}"><h3>{heading} <span>{}</span></h3>"#,
-        mark_class(mark),
-        mark_word(mark)
-    )
+/// Appends the heading of a tile, its mark, and the beginning of its value.
+fn push_heading(page: &mut Writer, heading: &str, mark: Mark) {
+    let (class, word) = mark_words(mark);
+    page.text(r#"<div class="tile "#)
+        .text(class)
+        .text(r#""><h3>"#)
+        .text(heading)
+        .text(" <span>")
+        .text(word)
+        .text("</span></h3>\n<p class=\"value\">");
 }
 
 /// Appends the tile of committed words.
-fn push_committed(text: &mut String, replay: &Replay<'_>) -> Result<(), AllocError> {
-    let facts = replay.facts();
+fn push_committed(page: &mut Writer, replay: &Replay<'_>) {
+    let facts = replay.facts;
+    let (now, peak, limit) = (facts.committed, facts.committed_peak, facts.limit);
     let case = replay.picture.tiles.committed;
-    push_heading(text, "Committed", case.mark())?;
-    writeln!(
-        text,
-        r#"<p class="value">{} <small>of {}, {}</small></p>"#,
-        Size(facts.committed),
-        Size(facts.limit),
-        Share::of(facts.committed, facts.limit)
-    )?;
-    let meter = Meter {
-        part: facts.committed,
-        whole: facts.limit,
-        peak: facts.committed_peak,
-    };
-    writeln!(text, "{meter}")?;
-    push_committed_sentence(text, case, facts, replay.course)
+    push_heading(page, "Committed", case.mark());
+    page.size(now)
+        .text(" <small>of ")
+        .size(limit)
+        .text(", ")
+        .share_of(now, limit)
+        .track(now, limit, peak);
+    match case {
+        CommittedCase::Refused => push_refusals(
+            page,
+            facts.commit_refused,
+            "at the limit",
+            first_line(replay.course, Reason::CommitLimit),
+        ),
+        CommittedCase::Near => push_near(page, peak),
+        CommittedCase::Within => push_within(page, peak, limit, " of the limit"),
+    }
 }
 
-/// Appends the sentence of committed words.
-fn push_committed_sentence(
-    text: &mut String,
-    case: CommittedCase,
-    facts: &Facts,
-    course: &Course,
-) -> Result<(), AllocError> {
-    let peak = Size(facts.committed_peak);
-    match case {
-        CommittedCase::Refused => writeln!(
-            text,
-            "<p>{} refused at the limit, first at line {}.</p></div>",
-            Count(facts.commit_refused, "line was", "lines were"),
-            first_line(course, Reason::CommitLimit)
-        ),
-        CommittedCase::Near => writeln!(
-            text,
-            "<p>The peak of {peak} came within a tenth of it, and no line was refused for it.</p></div>"
-        ),
-        CommittedCase::Within => writeln!(
-            text,
-            "<p>The peak was {peak}, {} of the limit.</p></div>",
-            Share::of(facts.committed_peak, facts.limit)
-        ),
-    }
+/// Appends the sentence of lines that were refused for want of room.
+fn push_refusals(page: &mut Writer, lines: u64, reason: &str, first: u64) {
+    page.text("<p>")
+        .count(lines, "line was", "lines were")
+        .text(" refused ")
+        .text(reason)
+        .text(", first at line ")
+        .number(first)
+        .text(".</p></div>\n");
+}
+
+/// Appends the sentence of a peak that came near to its limit.
+fn push_near(page: &mut Writer, peak: u64) {
+    page.text("<p>The peak of ").size(peak).text(
+        " came within a tenth of it, and no line was refused for it.</p></div>\n",
+    );
+}
+
+/// Appends the sentence of a peak within its limit.
+fn push_within(page: &mut Writer, peak: u64, limit: u64, of: &str) {
+    page.text("<p>The peak was ")
+        .size(peak)
+        .text(", ")
+        .share_of(peak, limit)
+        .text(of)
+        .text(".</p></div>\n");
 }
 
 /// Returns the number of the first line that was refused for a reason.
-fn first_line(course: &Course, reason: Reason) -> Grouped {
-    Grouped(u64::from(course.refused(reason).first_line))
+fn first_line(course: &Course, reason: Reason) -> u64 {
+    u64::from(course.refused(reason).first_line)
 }
 
 /// Appends the tile of used words.
-fn push_used(text: &mut String, replay: &Replay<'_>) -> Result<(), AllocError> {
-    let facts = replay.facts();
+fn push_used(page: &mut Writer, replay: &Replay<'_>) {
+    let (used, committed) = (replay.facts.used, replay.facts.committed);
     let case = replay.picture.tiles.used;
-    push_heading(text, "Used of committed", case.mark())?;
-    writeln!(
-        text,
-        r#"<p class="value">{} <small>{} of {}</small></p>"#,
-        Share::of(facts.used, facts.committed),
-        Size(facts.used),
-        Size(facts.committed)
-    )?;
-    let meter = Meter {
-        part: facts.used,
-        whole: facts.committed,
-        peak: 0,
-    };
-    writeln!(text, "{meter}")?;
-    push_used_sentence(text, case, facts)
-}
-
-/// Appends the sentence of used words.
-fn push_used_sentence(text: &mut String, case: UsedCase, facts: &Facts) -> Result<(), AllocError> {
-    let idle = Size(facts.committed.saturating_sub(facts.used));
+    let idle = committed.saturating_sub(used);
+    push_heading(page, "Used of committed", case.mark());
+    page.share_of(used, committed)
+        .text(" <small>")
+        .size(used)
+        .text(" of ")
+        .size(committed)
+        .track(used, committed, 0);
     match case {
-        UsedCase::Nothing => text.push_str("<p>Nothing is committed.</p></div>\n"),
-        UsedCase::Idle => writeln!(
-            text,
-            "<p>Less than half of what is committed is in use: {idle} are idle.</p></div>"
-        ),
-        UsedCase::InUse => { writeln!(text, "<p>{idle} are committed and not in use.</p></div>") }
-    }
+        UsedCase::Nothing => page.text("<p>Nothing is committed.</p></div>\n"),
+        UsedCase::Idle => page
+            .text("<p>Less than half of what is committed is in use: ")
+            .size(idle)
+            .text(" are idle.</p></div>\n"),
+        UsedCase::InUse => page
+            .text("<p>")
+            .size(idle)
+            .text(" are committed and not in use.</p></div>\n"),
+    };
 }
 
 /// Appends the tile of reserved words.
-fn push_reserved(text: &mut String, replay: &Replay<'_>) -> Result<(), AllocError> {
-    let facts = replay.facts();
-    let case = replay.picture.tiles.reserved;
-    let nodes = u64::from(facts.nodes);
-    let most_nodes = u64::from(facts.node_limit);
-    push_heading(text, "Reserved", case.mark())?;
-    writeln!(
-        text,
-        r#"<p class="value">{} <small>{} of {}</small></p>"#,
-        Size(narrow(replay.picture.usage.both.reserved.words)),
-        Count(nodes, "node", "nodes"),
-        Grouped(most_nodes)
-    )?;
-    let meter = Meter {
-        part: nodes,
-        whole: most_nodes,
-        peak: replay.picture.peaks.both.reserved / NODE_WORDS,
-    };
-    writeln!(text, "{meter}")?;
-    push_reserved_sentence(text, case, replay)
+fn push_reserved(page: &mut Writer, replay: &Replay<'_>) {
+    let words = narrow(replay.picture.usage.both.reserved.words);
+    let peak = replay.picture.peaks.both.reserved;
+    let nodes = u64::from(replay.facts.nodes);
+    let most_nodes = u64::from(replay.facts.node_limit);
+    push_heading(page, "Reserved", replay.picture.tiles.reserved.mark());
+    page.size(words)
+        .text(" <small>")
+        .count(nodes, "node", "nodes")
+        .text(" of ")
+        .number(most_nodes)
+        .track(nodes, most_nodes, peak / NODE_WORDS);
+    push_reserved_sentence(page, replay, words);
 }
 
-/// Appends the sentence of reserved words.
-fn push_reserved_sentence(
-    text: &mut String,
-    case: ReservedCase,
-    replay: &Replay<'_>,
-) -> Result<(), AllocError> {
-    let facts = replay.facts();
-    match case {
-        ReservedCase::Refused => writeln!(
-            text,
-            "<p>{} refused as no more nodes may be reserved, first at line {}.</p></div>",
-            Count(facts.reserve_refused, "line was", "lines were"),
-            first_line(replay.course, Reason::ReserveLimit)
+/// Appends the sentence of so many reserved words.
+fn push_reserved_sentence(page: &mut Writer, replay: &Replay<'_>, words: u64) {
+    let facts = replay.facts;
+    match replay.picture.tiles.reserved {
+        ReservedCase::Refused => push_refusals(
+            page,
+            facts.reserve_refused,
+            "as no more nodes may be reserved",
+            first_line(replay.course, Reason::ReserveLimit),
         ),
-        ReservedCase::All => text.push_str(
-            "<p>All nodes that may be reserved are, and no line was refused for it.</p></div>\n",
-        ),
-        ReservedCase::Empty => push_empty(text, u64::from(facts.empty_nodes)),
-        ReservedCase::Nothing => text.push_str("<p>No node is reserved.</p></div>\n"),
-        ReservedCase::Held => writeln!(
-            text,
-            "<p>A purge would give nothing back; {} of what is reserved is committed.</p></div>",
-            Share::of(
-                facts.committed,
-                narrow(replay.picture.usage.both.reserved.words)
-            )
-        ),
+        ReservedCase::All => {
+            page.text(
+                "<p>All nodes that may be reserved are, and no line was refused for it.</p></div>\n",
+            );
+        }
+        ReservedCase::Empty => push_empty(page, u64::from(facts.empty_nodes)),
+        ReservedCase::Nothing => {
+            page.text("<p>No node is reserved.</p></div>\n");
+        }
+        ReservedCase::Held => {
+            page.text("<p>A purge would give nothing back; ")
+                .share_of(facts.committed, words)
+                .text(" of what is reserved is committed.</p></div>\n");
+        }
     }
 }
 
 /// Appends the sentence of nodes without a chunk.
-fn push_empty(text: &mut String, nodes: u64) -> Result<(), AllocError> {
-    writeln!(
-        text,
-        "<p>{} no chunk: a purge would give back {}.</p></div>",
-        Count(nodes, "node holds", "nodes hold"),
-        Size(nodes.saturating_mul(NODE_WORDS))
-    )
+fn push_empty(page: &mut Writer, nodes: u64) {
+    page.text("<p>")
+        .count(nodes, "node holds", "nodes hold")
+        .text(" no chunk: a purge would give back ")
+        .size(nodes.saturating_mul(NODE_WORDS))
+        .text(".</p></div>\n");
 }
 
 /// Appends the tile of the class space.
-fn push_class_space(text: &mut String, replay: &Replay<'_>) -> Result<(), AllocError> {
+fn push_class_space(page: &mut Writer, replay: &Replay<'_>) {
     let case = replay.picture.tiles.class_space;
-    push_heading(text, "Class space", case.mark())?;
+    let (peak, limit) = (replay.facts.class_peak, replay.facts.class_limit);
+    let refused = replay.facts.class_refused;
+    let first = first_line(replay.course, Reason::ClassReserveLimit);
+    push_heading(page, "Class space", case.mark());
+    push_class_value(page, replay, case);
     match case {
-        ClassCase::Missing | ClassCase::Unwanted => push_no_class_space(text)?,
-        ClassCase::Refused | ClassCase::Near | ClassCase::Within => {
-            push_class_value(text, replay)?;
+        ClassCase::Missing => push_refusals(page, refused, "as there is none", first),
+        ClassCase::Refused => push_refusals(page, refused, "as it had no room", first),
+        ClassCase::Unwanted => {
+            page.text("<p>No line was refused for want of one.</p></div>\n");
         }
+        ClassCase::Near => push_near(page, peak),
+        ClassCase::Within => push_within(page, peak, limit, " of it"),
     }
-    push_class_sentence(text, case, replay.facts(), replay.course)
-}
-
-/// Appends the value of no class space.
-fn push_no_class_space(text: &mut String) -> Result<(), AllocError> {
-    let meter = Meter {
-        part: 0,
-        whole: 1,
-        peak: 0,
-    };
-    writeln!(
-        text,
-        "<p class=\"value\">none <small>--class-nodes 0</small></p>\n{meter}"
-    )
 }
 
 /// Appends the value of the class space.
-fn push_class_value(text: &mut String, replay: &Replay<'_>) -> Result<(), AllocError> {
-    let facts = replay.facts();
+fn push_class_value(page: &mut Writer, replay: &Replay<'_>, case: ClassCase) {
     let committed = replay.end.class_space.committed;
-    let meter = Meter {
-        part: committed,
-        whole: facts.class_limit,
-        peak: facts.class_peak,
-    };
-    writeln!(
-        text,
-        "<p class=\"value\">{} <small>of {}, {}</small></p>\n{meter}",
-        Size(committed),
-        Size(facts.class_limit),
-        Share::of(committed, facts.class_limit)
-    )
-}
-
-/// Appends the sentence of the class space.
-fn push_class_sentence(
-    text: &mut String,
-    case: ClassCase,
-    facts: &Facts,
-    course: &Course,
-) -> Result<(), AllocError> {
-    let peak = Size(facts.class_peak);
+    let (peak, limit) = (replay.facts.class_peak, replay.facts.class_limit);
     match case {
-        ClassCase::Missing => push_class_refused(text, "as there is none", facts, course),
-        ClassCase::Refused => push_class_refused(text, "as it had no room", facts, course),
-        ClassCase::Unwanted => {
-            text.push_str("<p>No line was refused for want of one.</p></div>\n")
-        }
-        ClassCase::Near => writeln!(
-            text,
-            "<p>The peak of {peak} came within a tenth of it, and no line was refused for it.</p></div>"
-        ),
-        ClassCase::Within => writeln!(
-            text,
-            "<p>The peak was {peak}, {} of it.</p></div>",
-            Share::of(facts.class_peak, facts.class_limit)
-        ),
-    }
-}
-
-/// Appends the sentence of lines that were refused in the class space.
-fn push_class_refused(
-    text: &mut String,
-    reason: &str,
-    facts: &Facts,
-    course: &Course,
-) -> Result<(), AllocError> {
-    writeln!(
-        text,
-        "<p>{} refused {reason}, first at line {}.</p></div>",
-        Count(facts.class_refused, "line was", "lines were"),
-        first_line(course, Reason::ClassReserveLimit)
-    )
+        ClassCase::Missing | ClassCase::Unwanted => page
+            .text("none <small>--class-nodes 0")
+            .track(0, 1, 0),
+        ClassCase::Refused | ClassCase::Near | ClassCase::Within => page
+            .size(committed)
+            .text(" <small>of ")
+            .size(limit)
+            .text(", ")
+            .share_of(committed, limit)
+            .track(committed, limit, peak),
+    };
 }
 
 /// Appends the tile of loaders.
-fn push_loaders(text: &mut String, replay: &Replay<'_>) -> Result<(), AllocError> {
-    let case = replay.picture.tiles.loaders;
+fn push_loaders(page: &mut Writer, replay: &Replay<'_>) {
     let here = u64::from(replay.end.loaders);
     let most = replay.picture.peaks.loaders;
-    push_heading(text, "Loaders", case.mark())?;
-    let meter = Meter {
-        part: here,
-        whole: most,
-        peak: 0,
-    };
-    writeln!(
-        text,
-        "<p class=\"value\">{} <small>at the end, {} at most</small></p>\n{meter}",
-        Grouped(here),
-        Grouped(most)
-    )?;
-    push_loader_sentence(text, case, replay)
+    let unloads = replay.facts.unloads;
+    let case = replay.picture.tiles.loaders;
+    push_heading(page, "Loaders", case.mark());
+    page.number(here)
+        .text(" <small>at the end, ")
+        .number(most)
+        .text(" at most")
+        .track(here, most, 0)
+        .text("<p>");
+    match case {
+        LoaderCase::NoneUnloaded => {
+            page.text("None was unloaded");
+        }
+        LoaderCase::Rising => {
+            page.text("Though ")
+                .count(unloads, "was", "were")
+                .text(" unloaded, at the quietest there were ");
+            push_lows(page, replay);
+            page.text(": a leak looks like this");
+        }
+        LoaderCase::Level => {
+            page.count(unloads, "was", "were")
+                .text(" unloaded. At the quietest there were ");
+            push_lows(page, replay);
+        }
+    }
+    page.text(".</p></div>\n");
 }
 
-/// Appends the sentence of loaders.
-fn push_loader_sentence(
-    text: &mut String,
-    case: LoaderCase,
-    replay: &Replay<'_>,
-) -> Result<(), AllocError> {
-    let facts = replay.facts();
-    let unloaded = Count(facts.unloads, "was", "were");
-    let low = Grouped(facts.low);
-    let half = Grouped(replay.half_line());
-    let after = Grouped(facts.low_after);
-    match case {
-        LoaderCase::NoneUnloaded => text.push_str("<p>None was unloaded.</p></div>\n"),
-        LoaderCase::Rising => writeln!(
-            text,
-            "<p>Though {unloaded} unloaded, at the quietest there were {low} before line {half} and {after} after it: a leak looks like this.</p></div>"
-        ),
-        LoaderCase::Level => writeln!(
-            text,
-            "<p>{unloaded} unloaded. At the quietest there were {low} before line {half} and {after} after it.</p></div>"
-        ),
-    }
+/// Appends how many loaders there were at the quietest of each half.
+fn push_lows(page: &mut Writer, replay: &Replay<'_>) {
+    page.number(replay.facts.low)
+        .text(" before line ")
+        .number(replay.half_line)
+        .text(" and ")
+        .number(replay.facts.low_after)
+        .text(" after it");
 }
 
 /// Appends the tile of refused lines.
-fn push_refused(text: &mut String, replay: &Replay<'_>) -> Result<(), AllocError> {
-    let facts = replay.facts();
+fn push_refused(page: &mut Writer, replay: &Replay<'_>) {
+    let (refused, lines) = (replay.facts.refused, replay.lines);
     let case = replay.picture.tiles.refused;
-    let lines = replay.lines();
-    push_heading(text, "Refused lines", case.mark())?;
-    let meter = Meter {
-        part: facts.refused,
-        whole: lines,
-        peak: 0,
-    };
-    writeln!(
-        text,
-        "<p class=\"value\">{} <small>of {}</small></p>\n{meter}",
-        Grouped(facts.refused),
-        Count(lines, "line", "lines")
-    )?;
-    if facts.refused > 0 {
-        push_names(text, replay.course)?;
+    push_heading(page, "Refused lines", case.mark());
+    page.number(refused)
+        .text(" <small>of ")
+        .count(lines, "line", "lines")
+        .track(refused, lines, 0);
+    if refused > 0 {
+        push_names(page, replay.course);
     }
-    push_refused_sentence(text, case, facts)
+    match case {
+        RefusedCase::Wants => page
+            .text("<p>")
+            .count(
+                wants(replay.facts),
+                "line was refused",
+                "lines were refused",
+            )
+            .text(" for want of room.</p></div>\n"),
+        RefusedCase::Asks => page.text(
+            "<p>None was refused for want of room: see how the trace was made.</p></div>\n",
+        ),
+        RefusedCase::Nothing => page.text("<p>Every line was done.</p></div>\n"),
+    };
 }
 
 /// Appends how many lines were refused by each name that has any.
-fn push_names(text: &mut String, course: &Course) -> Result<(), AllocError> {
-    let reserve = u64::from(course.refused(Reason::ReserveLimit).lines);
-    let class_reserve = u64::from(course.refused(Reason::ClassReserveLimit).lines);
-    let of = |reason| u64::from(course.refused(reason).lines);
-    let rows = [
-        ("LoaderExists", of(Reason::LoaderExists)),
-        ("IdsUsedUp", of(Reason::IdsUsedUp)),
-        ("NoLoader", of(Reason::NoLoader)),
-        ("BlockExists", of(Reason::BlockExists)),
-        ("ZeroWords", of(Reason::ZeroWords)),
-        ("TooLarge", of(Reason::TooLarge)),
-        ("OutOfMemory", of(Reason::OutOfMemory)),
-        ("ReserveLimit", reserve + class_reserve),
-        ("CommitLimit", of(Reason::CommitLimit)),
-        ("NoBlock", of(Reason::NoBlock)),
-        ("OutOfRange", of(Reason::OutOfRange)),
-    ];
-    text.push_str("<dl>")?;
-    for (name, lines) in &rows {
-        if *lines > 0 {
-            write!(text, "<dt>{name}</dt><dd>{}</dd>", Grouped(*lines))?;
+fn push_names(page: &mut Writer, course: &Course) {
+    page.text("<dl>");
+    for reason in NAMED {
+        let lines = refused_lines(course, reason);
+        if lines > 0 {
+            page.text("<dt>")
+                .text(reason_word(reason))
+                .text("</dt><dd>")
+                .number(lines)
+                .text("</dd>");
         }
     }
-    text.push_str("</dl>\n")
+    page.text("</dl>\n");
 }
 
-/// Appends the sentence of refused lines.
-fn push_refused_sentence(
-    text: &mut String,
-    case: RefusedCase,
-    facts: &Facts,
-) -> Result<(), AllocError> {
-    match case {
-        RefusedCase::Wants => writeln!(
-            text,
-            "<p>{} for want of room.</p></div>",
-            Count(wants(facts), "line was refused", "lines were refused")
-        ),
-        RefusedCase::Asks => text.push_str(
-            "<p>None was refused for want of room: see how the trace was made.</p></div>\n",
-        ),
-        RefusedCase::Nothing => text.push_str("<p>Every line was done.</p></div>\n"),
+/// Returns how many lines were refused under a reason's name.
+fn refused_lines(course: &Course, reason: Reason) -> u64 {
+    let lines = u64::from(course.refused(reason).lines);
+    match reason {
+        Reason::ReserveLimit => lines + u64::from(course.refused(Reason::ClassReserveLimit).lines),
+        _ => lines,
     }
 }
 

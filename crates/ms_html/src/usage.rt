@@ -1,10 +1,10 @@
 //! How much of the memory is what at the end, and at most: the full report's six rows, of both
 //! spaces and, where there is one, of the class space.
-use crate::numbers::{Share, WordsCell, narrow};
+use crate::numbers::narrow;
 use crate::replay::Replay;
-use crate::series::{Lines, Series};
+use crate::series::Series;
+use crate::writer::Writer;
 use ms_report::Amount;
-use std::alloc::AllocError;
 
 /// A row: an amount of both spaces and of the class space.
 #[derive(Clone, Copy)]
@@ -21,42 +21,37 @@ struct Row {
 }
 
 /// Appends the table.
-pub(crate) fn push_usage(text: &mut String, replay: &Replay<'_>) -> Result<(), AllocError> {
-    text.push_str(
+pub(crate) fn push_usage(page: &mut Writer, replay: &Replay<'_>) {
+    page.text(
         r#"<div class="wide" tabindex="0" role="region" aria-label="Usage"><table class="usage"><caption>Usage at the end, and at most</caption>
 <thead>"#,
-    )?;
-    push_usage_head(text, has_class_space(replay))?;
-    push_taken_rows(text, replay)?;
-    push_contents_rows(text, replay)?;
-    text.push_str("</tbody></table></div>\n")
-}
-
-/// Returns whether the run has a class space.
-fn has_class_space(replay: &Replay<'_>) -> bool {
-    replay.settings.class_nodes > 0
+    );
+    push_usage_head(page, replay.has_class_space);
+    push_taken_rows(page, replay);
+    push_contents_rows(page, replay);
+    page.text("</tbody></table></div>\n");
 }
 
 /// Appends the headings.
-fn push_usage_head(text: &mut String, two: bool) -> Result<(), AllocError> {
+fn push_usage_head(page: &mut Writer, two: bool) {
     if two {
-        text.push_str(
+        page.text(
             "<tr><td></td><th colspan=\"4\" scope=\"colgroup\">both spaces</th><th colspan=\"3\" scope=\"colgroup\" class=\"apart\">class space</th></tr>\n",
-        )?;
+        );
     }
-    text.push_str(
+    page.text(
         r#"<tr><th scope="col">words</th><th scope="col">now</th><th scope="col">per cent</th><th scope="col">peak</th><th scope="col">first at its peak in</th>"#,
-    )?;
+    );
     if two {
-        text.push_str(
+        page.text(
             r#"<th scope="col" class="apart">now</th><th scope="col">per cent</th><th scope="col">peak</th>"#,
-        )?;
+        );
     }
-    text.push_str("</tr></thead>\n<tbody>")
+    page.text("</tr></thead>\n<tbody>");
 }
 
 /// Appends the rows down to what is in use.
-fn push_taken_rows(text: &mut String, replay: &Replay<'_>) -> Result<(), AllocError> {
+fn push_taken_rows(page: &mut Writer, replay: &Replay<'_>) {
     let both = &replay.picture.usage.both;
     let class_space = &replay.picture.usage.class_space;
     let rows = [
@@ -85,11 +80,11 @@ fn push_taken_rows(text: &mut String, replay: &Replay<'_>) -> Result<(), AllocEr
             over: Some((Series::Used, Series::ClassUsed)),
         },
     ];
-    push_rows(text, replay, &rows)
+    push_rows(page, replay, &rows);
 }
 
 /// Appends the rows of what is in use.
-fn push_contents_rows(text: &mut String, replay: &Replay<'_>) -> Result<(), AllocError> {
+fn push_contents_rows(page: &mut Writer, replay: &Replay<'_>) {
     let both = &replay.picture.usage.both;
     let class_space = &replay.picture.usage.class_space;
     let rows = [
@@ -118,60 +113,57 @@ fn push_contents_rows(text: &mut String, replay: &Replay<'_>) -> Result<(), Allo
             over: None,
         },
     ];
-    push_rows(text, replay, &rows)
+    push_rows(page, replay, &rows);
 }
 
 /// Appends rows.
-fn push_rows(text: &mut String, replay: &Replay<'_>, rows: &[Row]) -> Result<(), AllocError> {
+fn push_rows(page: &mut Writer, replay: &Replay<'_>, rows: &[Row]) {
     for row in rows {
-        push_row(text, replay, row)?;
+        push_row(page, replay, row);
     }
-    Ok(())
 }
 
 /// Appends a row.
-fn push_row(text: &mut String, replay: &Replay<'_>, row: &Row) -> Result<(), AllocError> {
-    write!(
-        text,
-        r#"<tr><th scope="row"><span class="k-{}">{}</span> <small>{}</small></th>"#,
-        row.class, row.label, row.of
-    )?;
-    push_amount(text, row.both)?;
-    push_peak(text, replay, row)?;
-    if has_class_space(replay) {
-        push_amount(text, row.class_space)?;
-        push_class_peak(text, replay, row)?;
+fn push_row(page: &mut Writer, replay: &Replay<'_>, row: &Row) {
+    page.text(r#"<tr><th scope="row"><span class="k-"#)
+        .text(row.class)
+        .text(r#"">"#)
+        .text(row.label)
+        .text("</span> <small>")
+        .text(row.of)
+        .text("</small></th>");
+    push_amount(page, row.both);
+    match row.over {
+        Some((series, _)) => push_peak(page, replay, series),
+        None => {
+            page.text("<td></td><td></td>");
+        }
     }
-    text.push_str("</tr>\n")
+    if replay.has_class_space {
+        push_amount(page, row.class_space);
+        match row.over {
+            Some((_, series)) => page.words_cell(series.amount(&replay.picture.peaks)),
+            None => page.text("<td></td>"),
+        };
+    }
+    page.text("</tr>\n");
 }
 
 /// Appends an amount and its share.
-fn push_amount(text: &mut String, amount: Amount) -> Result<(), AllocError> {
-    write!(
-        text,
-        "{}<td>{}</td>",
-        WordsCell(narrow(amount.words)),
-        Share(amount.share)
-    )
+fn push_amount(page: &mut Writer, amount: Amount) {
+    page.words_cell(narrow(amount.words))
+        .text("<td>")
+        .share(amount.share)
+        .text("</td>");
 }
 
 /// Appends the peak in both spaces, and where it was first.
-fn push_peak(text: &mut String, replay: &Replay<'_>, row: &Row) -> Result<(), AllocError> {
-    let Some((series, _)) = row.over else {
-        return text.push_str("<td></td><td></td>");
-    };
+fn push_peak(page: &mut Writer, replay: &Replay<'_>, series: Series) {
     let peak = series.amount(&replay.picture.peaks);
-    write!(text, "{}", WordsCell(peak))?;
-    match series.first_at(replay.columns(), peak) {
-        Some((_, column)) if peak > 0 => write!(text, "<td>{}</td>", Lines::of(column)),
-        _ => text.push_str("<td>-</td>"),
-    }
-}
-
-/// Appends the peak in the class space.
-fn push_class_peak(text: &mut String, replay: &Replay<'_>, row: &Row) -> Result<(), AllocError> {
-    let Some((_, series)) = row.over else {
-        return text.push_str("<td></td>");
+    page.words_cell(peak).text("<td>");
+    match series.first_at(replay.columns, peak) {
+        Some((_, column)) if peak > 0 => page.lines(column),
+        _ => page.text("-"),
     };
-    write!(text, "{}", WordsCell(series.amount(&replay.picture.peaks)))
+    page.text("</td>");
 }
