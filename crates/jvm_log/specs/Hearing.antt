@@ -1,5 +1,5 @@
 -- How a log goes to a listener: line by line, what each says, in their order.
-use Rattle.std.specs.Prelude.{◌≡◌, ◌≢◌, ℕ, ◌+◌, ◌-◌, List, [], ◌∷◌, length, take, drop, Option, Some, None, nat_eq, if◌then◌else◌}
+use Rattle.std.specs.Prelude.{◌≡◌, ◌≢◌, ℕ, ◌+◌, ◌-◌, List, [], ◌∷◌, length, take, drop, Option, Some, None, nat_eq, if◌then◌else◌, IfSome}
 use Rattle.std.specs.Cmp.Lexicographic.{pointwise}
 use Rattle.std.specs.Io.BufRead.{take_through, drop_through}
 use Rattle.jvm_log.specs.declared.event.Said.{Said}
@@ -25,6 +25,7 @@ HearsLines hears old number [] new = new ≡ old
 HearsLines {S} hears old number (line ∷ lines) new =
     (mid : S) × HearsLine hears old number (trimmed line) (said_in (trimmed line)) mid × HearsLines hears mid (number + 1) lines new
 
--- It hears a whole text.
-abbrev pub HearsText : {S : Type 0} → (S → ℕ → List ℕ → Said → S → Type 0) → S → List ℕ → S → Type 0
-HearsText hears old text new = (lines : List (List ℕ)) × AreLines text lines × HearsLines hears old 1 lines new
+-- It hears all lines of a log, which are those of its text where that is known.
+abbrev pub HearsLog : {S : Type 0} → (S → ℕ → List ℕ → Said → S → Type 0) → S → Option (List ℕ) → S → Type 0
+HearsLog hears old text new =
+    (lines : List (List ℕ)) × IfSome text (λ bytes. AreLines bytes lines) × HearsLines hears old 1 lines new

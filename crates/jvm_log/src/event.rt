@@ -29,7 +29,8 @@ pub enum Event {
         space: Space,
         address: u64,
     },
-    /// The request is answered by a block that was freed before; `Told` says which.
+    /// The request is answered by a block that was freed before; the next `Told` has
+    /// its address.
     TakenFromFreeBlocks {
         arena: u64,
         space: Space,
@@ -64,7 +65,7 @@ pub enum Event {
     Committed {
         words: u64,
     },
-    /// A thread is told the address of its block.
+    /// A thread gets its block, which lies at that address.
     Told {
         address: u64,
     },
@@ -73,7 +74,8 @@ pub enum Event {
         address: u64,
         kind: Kind,
     },
-    /// The loader whose data lies at that address has a name, which it told when it was unloaded.
+    /// The loader whose data lies at that address has a name, which
+    /// the JVM logs when it unloads the loader.
     LoaderNamed {
         data: u64,
     },

@@ -16,11 +16,11 @@ use std::collections::VecDeque;
 pub(crate) enum Entry {
     /// It is whole.
     Whole(Placed),
-    /// It opens the loader of that name, which is standard unless its kind is told.
+    /// It opens the loader of that name, which is standard until its kind is known.
     Born(u16),
-    /// It is a request's, and comes to nothing unless that is answered.
+    /// It is a request's, and gives no line unless the JVM answers that.
     Asked,
-    /// It came to nothing.
+    /// It gives no line.
     Void,
 }
 
@@ -106,7 +106,8 @@ impl Held {
         Ok(())
     }
 
-    /// Checks whether the entry of that number is a request's that isn't answered yet.
+    /// Checks whether the entry of that number is a request's without an answer so
+    /// far.
     fn is_asked(&self, number: u64) -> bool
         ensures later { IsTrue result → self.now.first ≤ number }
         ensures asked { IsTrue result → slice_get self.now.entries.items (number - self.now.first) ≡ Some Asked }
@@ -122,8 +123,7 @@ impl Held {
         }
     }
 
-    /// Makes the line of that number whole by the loader's kind, where it opens one and is still held
-    /// back.
+    /// Gives the line of that number the loader's kind, where it opens one and is still held back.
     pub(crate) fn tell_kind(&mut self, number: u64, kind: Kind)
         ensures { name_acts_of self.new.entries.items ≡ name_acts_of self.old.entries.items }
     {
@@ -135,7 +135,7 @@ impl Held {
         }
     }
 
-    /// Makes nothing of a request's line of that number, where it isn't known yet.
+    /// Takes back a request's line of that number, where it isn't whole yet.
     pub(crate) fn cancel(&mut self, number: u64)
         ensures { waiting self.new.entries.items ≡ waiting self.old.entries.items }
     {
@@ -188,7 +188,7 @@ impl Held {
     }
 }
 
-/// The line that opens a loader.
+/// Returns the line that opens a loader.
 fn opening(loader: u16, kind: Kind) -> Placed
     ensures { result ≡ opening loader kind }
 {
@@ -198,7 +198,7 @@ fn opening(loader: u16, kind: Kind) -> Placed
     }
 }
 
-/// The line of an entry, as far as it is known.
+/// Returns the line of an entry, as far as it is known.
 fn known(entry: Entry) -> Option<Placed>
     ensures some { IfSome result (λ line. known_of entry ≡ line.command ∷ []) }
     ensures none { IfNone result (known_of entry ≡ []) }
@@ -215,7 +215,7 @@ fn is_open(entry: Entry) -> bool {
     matches!(entry, Entry::Born(_) | Entry::Asked)
 }
 
-/// What stands for an entry of which nothing more will be known.
+/// Returns what stands for an entry of which nothing more will be known.
 fn settled(entry: Entry) -> Entry
     ensures { known_of result ≡ known_of entry }
 {

@@ -4,7 +4,7 @@
 //!     class        standard 13, reflection 14, hidden 14
 //!
 //! After HotSpot 17's metaspaceArenaGrowthPolicy.cpp. A request that needs more gets a larger chunk,
-//! which tells nothing where the tables would ask for no more.
+//! whose level shows no kind.
 ghost use Rattle.std.specs.Prelude.{◌≡◌, IfSome};
 ghost use Rattle.jvm_log.specs.Kinds.{first_level};
 
@@ -17,7 +17,7 @@ const ROOT_WORDS: u64 = 2_097_152;
 const LAST: u64 = 14;
 
 /// Returns the kind of a loader whose arena of that space asks for its first chunk at that level,
-/// for a request of so many words, if that can be told. The first loader of a log is the boot
+/// for a request of so many words, if the level shows it. The first loader of a log is the boot
 /// loader.
 pub(crate) fn kind_by_level(space: Space, level: u64, words: u64) -> Option<Kind>
     ensures { IfSome result (λ kind. first_level space kind ≡ level) }

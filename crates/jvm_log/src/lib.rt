@@ -4,10 +4,10 @@
 //!     --------------------------- ------------------------------------- -------------------
 //!     head: the thread            whose arena                           Event::Requested
 //!
-//! `read_log` tells a `Listener` what each line says; `Machine` makes a trace's lines of it.
+//! `read_log` passes what each line says to a `Listener`; `Machine` makes a trace's lines of it.
 //! `specs/Reading` has the form of each line, part by part; any other line says nothing.
 //! A file of names, as `metalog --names` writes it, has a line for each `new` line of the trace, in
-//! their order: the loader's number, a space, and what the log tells of it, or `?`.
+//! their order: the loader's number, a space, and what the log says of it, or `?`.
 //! Apart because the forms of the log are another program's, of one release. Stands on `ms_trace`.
 //! After the messages of HotSpot 17.0.15.
 #![tactic(auto)]

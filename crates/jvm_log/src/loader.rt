@@ -9,7 +9,7 @@ pub(crate) struct Loader {
     /// How many loaders were born before it.
     pub(crate) birth: u64,
     pub(crate) name: u16,
-    /// Its kind, once that is told.
+    /// Its kind, once that is known.
     pub(crate) kind: Option<Kind>,
     /// The number of its line among those held back.
     pub(crate) line: u64,

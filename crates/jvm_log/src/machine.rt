@@ -23,12 +23,12 @@ use std::collections::HashMap;
 /// The most lines that are held back: past that the first goes out as far as it is known.
 const MOST_HELD: usize = 100_000;
 
-/// What answered a thread's last request, whose address it isn't told yet.
+/// The answer to a thread's last request, before the JVM logs its address.
 #[derive(Clone, Copy, Debug, PartialEq, Eq)]
 enum Answer {
     /// A block at that address.
     At(u64),
-    /// This block, whose address only `Told` says.
+    /// This block, whose address comes with `Told`.
     FromFreeBlocks(Block),
 }
 
@@ -50,7 +50,7 @@ pub struct Machine {
     births: u64,
     /// Whether any line about the metaspace came.
     began: bool,
-    /// Whether any told of a request.
+    /// Whether any line had a request.
     asked: bool,
     reports: bool,
 }
@@ -81,7 +81,7 @@ impl Machine {
         self.births
     }
 
-    /// Checks whether any line told of a request.
+    /// Checks whether any line had a request.
     pub fn has_requests(&self) -> bool {
         self.asked
     }
@@ -161,7 +161,7 @@ impl Machine {
         }
     }
 
-    /// A loader is born. Where one lives at its address the log lacks that one's death.
+    /// Adds a loader that is born. Where one lives at its address, the log lacks that one's death.
     fn bear(
         &mut self,
         loader: u64,
@@ -230,7 +230,7 @@ impl Machine {
         self.held.tell_kind(line, kind);
     }
 
-    /// A loader dies.
+    /// Removes a loader that dies.
     #[tactic(auto, using(crate::proofs::NameLemmas::uses_quiet, crate::proofs::NameLemmas::uses_same))]
     fn bury(&mut self, loader: u64) -> Result<Option<Trouble>, AllocError>
         ensures { OnOk result (UsesNames self.old self.new) }
@@ -247,7 +247,7 @@ impl Machine {
         Ok(untold)
     }
 
-    /// Returns what is wrong with a loader that has blocks, and of which no kind is told.
+    /// Returns what is wrong with a loader that has blocks, and whose kind isn't known.
     fn untold(&self, loader: u64) -> Option<Trouble> {
         match self.loaders.get(&loader) {
             Some(known) if known.kind.is_none() && known.next != 0 => Some(Trouble::UnknownKind),
@@ -255,7 +255,7 @@ impl Machine {
         }
     }
 
-    /// A thread asks an arena for words.
+    /// Opens a thread's request to an arena for words.
     fn ask(&mut self, thread: u64, arena: u64, words: u64) -> Result<Option<Trouble>, AllocError>
         ensures no_line { waiting_in self.new ≡ waiting_in self.old }
         ensures names { names_in self.new ≡ names_in self.old }
@@ -296,7 +296,7 @@ impl Machine {
         }
     }
 
-    /// A request is refused: HotSpot asks again.
+    /// Takes back a request that is refused: HotSpot asks again.
     fn refuse(&mut self, thread: u64) -> Result<Option<Trouble>, AllocError>
         ensures no_line { waiting_in self.new ≡ waiting_in self.old }
         ensures names { names_in self.new ≡ names_in self.old }
@@ -307,7 +307,7 @@ impl Machine {
         })
     }
 
-    /// A thread's request takes a step in the pool: the first decides where its line stands.
+    /// Notes a step of a thread's request in the pool: the first decides where its line stands.
     fn pass_the_pool(&mut self, thread: u64) -> Result<Option<Trouble>, AllocError>
         ensures no_line { OnOk result (waiting_in self.new ≡ waiting_in self.old) }
         ensures names { names_in self.new ≡ names_in self.old }
@@ -320,7 +320,7 @@ impl Machine {
         Ok(None)
     }
 
-    /// A thread's request asks for a chunk of that level.
+    /// Notes the level of the chunk that a thread's request asks for, which may show a loader's kind.
     fn ask_for_chunk(
         &mut self,
         thread: u64,
@@ -340,7 +340,7 @@ impl Machine {
         Ok(None)
     }
 
-    /// A request is answered, by a block at that address or by a free block.
+    /// Answers a request, by a block at that address or by a free block.
     fn answer(
         &mut self,
         thread: u64,
@@ -376,7 +376,7 @@ impl Machine {
         Ok(None)
     }
 
-    /// A thread is told the address of its block. After a collection the answer was another thread's.
+    /// Notes the address of a thread's block. After a collection the answer was another thread's.
     fn tell(&mut self, thread: u64, address: u64) -> Result<Option<Trouble>, AllocError>
         ensures no_line { waiting_in self.new ≡ waiting_in self.old }
         ensures names { names_in self.new ≡ names_in self.old }
@@ -410,7 +410,7 @@ impl Machine {
         found
     }
 
-    /// An arena frees the block at that address.
+    /// Frees an arena's block at that address.
     fn free(&mut self, arena: u64, address: u64) -> Result<Option<Trouble>, AllocError>
         ensures line { OnOk result (Frees arena address self.old self.new) }
         ensures acts { OnOk result (acts_in self.new ≡ acts_in self.old) }
@@ -432,7 +432,7 @@ impl Machine {
         Ok(None)
     }
 
-    /// A class whose block lies at that address belongs to a loader of that kind.
+    /// Notes the kind of the loader whose class has its block at that address.
     fn add_class(&mut self, address: u64, kind: Kind) -> Result<Option<Trouble>, AllocError>
         ensures acts { acts_in self.new ≡ acts_in self.old }
         ensures names { names_in self.new ≡ names_in self.old }
@@ -444,7 +444,7 @@ impl Machine {
         Ok(None)
     }
 
-    /// A collection is over.
+    /// Adds a report after a collection, where those are asked for.
     fn collect(&mut self) -> Result<Option<Trouble>, AllocError>
         ensures acts { OnOk result (acts_in self.new ≡ acts_in self.old) }
         ensures names { names_in self.new ≡ names_in self.old }
@@ -455,7 +455,7 @@ impl Machine {
         Ok(None)
     }
 
-    /// Takes in that the log is over: what is not known by now never will be. Answers what the end
+    /// Takes in that the log is over: what is not known by now never will be. Returns what the end
     /// shows to be wrong.
     pub fn finish(&mut self) -> Option<Trouble>
         ensures closed { is_closed self.new ≡ true }
@@ -475,7 +475,7 @@ impl Machine {
         None
     }
 
-    /// Checks whether a loader with blocks lives whose kind isn't told.
+    /// Checks whether a loader with blocks lives whose kind isn't known.
     fn has_untold(&self) -> bool {
         for loader in self.loaders.values() {
             if loader.kind.is_none() && loader.next != 0 {
@@ -498,7 +498,7 @@ impl Machine {
     }
 }
 
-/// Keeps a block at its address, or until that is told, as what answered a thread.
+/// Keeps a block at its address, or until `Told` has that, as the answer to a thread.
 fn keep(
     blocks: &mut HashMap<u64, Block>,
     answers: &mut HashMap<u64, Answer>,

@@ -1,4 +1,4 @@
-//! What the log tells of the names of loaders, for people: no clause speaks of these texts.
+//! What the log says of the names of loaders, for people: no clause speaks of these texts.
 use crate::parts::{address_at, after, past};
 use memchr::memchr;
 
@@ -28,7 +28,7 @@ pub fn owner_in(line: &[u8]) -> Option<Owner<'_>> {
     })
 }
 
-/// Reads the address of a loader's data, and the loader's own name, where a line tells it.
+/// Reads the address of a loader's data, and the loader's own name, where a line has them.
 pub fn name_in(line: &[u8]) -> Option<(u64, &[u8])> {
     let rest = message_after(b"] unloadloader data: ".as_slice(), line)?;
     let (data, rest) = address_at(rest)?;

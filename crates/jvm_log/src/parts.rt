@@ -14,7 +14,7 @@ use ms_trace::read_word;
 /// The bytes of an address after its `0x`.
 const ADDRESS_DIGITS: usize = 16;
 
-/// Reads that word, and answers what stands after it.
+/// Reads that word, and returns what stands after it.
 #[inline(always)]
 pub(crate) fn after<'a>(word: &[u8], text: &'a [u8]) -> Option<&'a [u8]>
     ensures { option_copied result ≡ after word.now text.now }
@@ -31,7 +31,7 @@ pub(crate) fn only(word: &[u8], text: &[u8]) -> Option<()>
     if text == word { Some(()) } else { None }
 }
 
-/// Passes over all up to the first such byte, and answers what stands after it.
+/// Skips all up to the first such byte, and returns what stands after it.
 #[inline(always)]
 #[tactic(auto, unfolding(crate::specs::Parts::past))]
 pub(crate) fn past(byte: u8, text: &[u8]) -> Option<&[u8]>

@@ -367,7 +367,7 @@ fn collection_line(message: &[u8]) -> Option<Event>
     Some(Event::Collection)
 }
 
-/// Reads a word and a change after it, and answers what stands after that.
+/// Reads a word and a change after it, and returns what stands after that.
 #[tactic(auto, unfolding(crate::specs::Reading::change_after))]
 fn change_after<'a>(word: &[u8], text: &'a [u8]) -> Option<&'a [u8]>
     ensures { option_copied result ≡ change_after word.now text.now }
@@ -375,7 +375,7 @@ fn change_after<'a>(word: &[u8], text: &'a [u8]) -> Option<&'a [u8]>
     change_at(after(word, text)?)
 }
 
-/// Reads `aK(bK)->cK(dK)`, and answers what stands after it.
+/// Reads `aK(bK)->cK(dK)`, and returns what stands after it.
 #[tactic(auto, unfolding(crate::specs::Reading::change_at))]
 fn change_at(text: &[u8]) -> Option<&[u8]>
     ensures { option_copied result ≡ change_at text.now }

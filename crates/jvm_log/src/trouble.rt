@@ -7,10 +7,10 @@ pub enum Trouble {
     /// The first line about the metaspace isn't its first one.
     #[error("the log begins in the middle, rotated or cut: what came before is not in the trace")]
     BeginsLate,
-    /// An arena whose birth isn't told.
+    /// An arena whose birth isn't in the log.
     #[error("an arena whose birth the log doesn't tell: its requests are not in the trace")]
     UnknownArena,
-    /// A thread asks again before it is answered.
+    /// A thread asks again before it has an answer.
     #[error("a request has no answer, lines are missing: it is not in the trace")]
     Unanswered,
     /// An answer to no request.
@@ -25,10 +25,10 @@ pub enum Trouble {
     /// No name is left for a loader, or no number for a block.
     #[error("65536 loaders live at once: this one is not in the trace")]
     NoName,
-    /// The kind of a loader isn't told.
+    /// The kind of a loader isn't in the log.
     #[error("the kind of a loader is not told: the trace has it as standard")]
     UnknownKind,
-    /// No request is told.
+    /// The log has no request.
     #[error("no line tells of a request (level trace): the trace has loaders and no block")]
     NoRequest,
     /// The JVM left out lines.

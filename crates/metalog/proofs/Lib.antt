@@ -5,3 +5,5 @@ pub mod CommandLineLemmas
 pub mod JoiningLemmas
 pub mod OutputLemmas
 pub mod NamingLemmas
+pub mod TraceLemmas
+pub mod UnderWayLemmas

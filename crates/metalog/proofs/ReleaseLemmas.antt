@@ -1,35 +1,43 @@
--- A log that is heard to its end is of no other release. Used by `convert`.
+-- A log that is heard to its end is of no other release, and takes a conversion to its end. Used by `convert`.
 use Rattle.std.proofs.Common.{ℕ, ◌+◌, List, [], ◌∷◌, Option, Some, None, Result, Ok, Err}
 use Rattle.std.specs.List.{AllByRecursion}
 use Rattle.std.specs.Prelude.{IfSome, OnOk}
+use Rattle.std.proofs.Common.{subst, sym}
 use Rattle.std.proofs.lemmas.List.Elements.{All-from_recursion}
 use Rattle.jvm_log.specs.declared.event.Said.{Said}
-use Rattle.jvm_log.specs.Hearing.{HearsLine, HearsLines, HearsText, trimmed}
+use Rattle.jvm_log.specs.Hearing.{AreLines, HearsLine, HearsLines, HearsLog, trimmed}
 use Rattle.jvm_log.specs.Reading.{said_in}
+use Rattle.metalog.specs.declared.conversion.Conversion.{Conversion}
+use Rattle.metalog.specs.UnderWay.{GoesOn, Hears}
 use Rattle.metalog.specs.Release.{IsNoOther, IsOfJdk17, LineIsOfJdk17, LogIsOfJdk17}
 
--- What is heard, whatever hears it.
-abbrev pub heard_in : (S : Type 0) → S → ℕ → List ℕ → Said → S → Type 0
-heard_in S old number line said new = IsOfJdk17 said
+-- What each line of a log says shows no other release, and takes a conversion further.
+abbrev heard : {E : Type 0} → Conversion E × Option (List ℕ) → ℕ → List ℕ → Said → Conversion E × Option (List ℕ) → Type 0
+heard old number line said new = Hears old said new
 
-line_is : (S : Type 0) (old new : S) (number : ℕ) (line : List ℕ) (said : Option Said)
-    → HearsLine (heard_in S) old number line said new → IsNoOther said
-line_is S old new number line None heard = tt
-line_is S old new number line (Some said) heard = heard
+line_is : {E : Type 0} (old new : Conversion E × Option (List ℕ)) (number : ℕ) (line : List ℕ) (said : Option Said)
+    → HearsLine heard old number line said new → IsNoOther said × GoesOn old new
+line_is old new number line None same = (tt, subst (GoesOn old) (sym same) (λ start come. come))
+line_is old new number line (Some said) hears = hears
 
-lines_are : (S : Type 0) (old new : S) (number : ℕ) (lines : List (List ℕ))
-    → HearsLines (heard_in S) old number lines new → AllByRecursion LineIsOfJdk17 lines
-lines_are S old new number [] heard = tt
-lines_are S old new number (line ∷ lines) (mid, first, rest) =
-    (line_is S old mid number (trimmed line) (said_in (trimmed line)) first, lines_are S mid new (number + 1) lines rest)
+lines_are : {E : Type 0} (old new : Conversion E × Option (List ℕ)) (number : ℕ) (lines : List (List ℕ))
+    → HearsLines heard old number lines new → AllByRecursion LineIsOfJdk17 lines × GoesOn old new
+lines_are old new number [] same = (tt, subst (GoesOn old) (sym same) (λ start come. come))
+lines_are old new number (line ∷ lines) (mid, first, rest) =
+    let here = line_is old mid number (trimmed line) (said_in (trimmed line)) first in
+    let then = lines_are mid new (number + 1) lines rest in
+    ((here.0, then.0), λ start come. then.1 start (here.1 start come))
 
-pub text_is : (S : Type 0) (old new : S) (text : List ℕ) → HearsText (heard_in S) old text new → LogIsOfJdk17 text
-text_is S old new text (lines, are, heard) = (lines, are, All-from_recursion LineIsOfJdk17 lines (lines_are S old new 1 lines heard))
+known_is : (text : Option (List ℕ)) (lines : List (List ℕ)) → IfSome text (λ bytes. AreLines bytes lines)
+    → AllByRecursion LineIsOfJdk17 lines → IfSome text LogIsOfJdk17
+known_is None lines are all = tt
+known_is (Some text) lines are all = (lines, are, All-from_recursion LineIsOfJdk17 lines all)
 
-pub known_is : (S : Type 0) (old new : S) (text : Option (List ℕ)) → IfSome text (λ bytes. HearsText (heard_in S) old bytes new)
-    → IfSome text LogIsOfJdk17
-known_is S old new None heard = tt
-known_is S old new (Some text) heard = text_is S old new text heard
+pub log_is : {E : Type 0} (old new : Conversion E × Option (List ℕ)) (text : Option (List ℕ)) → HearsLog heard old text new
+    → IfSome text LogIsOfJdk17 × GoesOn old new
+log_is old new text (lines, are, hears) =
+    let all = lines_are old new 1 lines hears in
+    (known_is text lines are all.0, all.1)
 
 -- What holds at all holds where a call succeeds.
 pub on_success : {T E : Type 0} (result : Result T E) (P : Type 0) → P → OnOk result P

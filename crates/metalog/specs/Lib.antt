@@ -4,5 +4,7 @@ pub mod CommandLine
 pub mod Asked
 pub mod Joining
 pub mod Output
+pub mod Trace
+pub mod UnderWay
 pub mod Warnings
 pub mod Naming

@@ -1,11 +1,19 @@
 //! A log on its way to a trace: the machine that hears it, and where its lines go.
+//!
+//!     heard    machine (held back)  ->  kept (to be joined)  ->  text (a piece)  ->  output
+//!
+//! Kept true: what went out and the text are lines of commands, after which the others come.
+ghost use Rattle.std.specs.Prelude.{◌≡◌, Option, List, ℕ, IfOk, OnOk};
+ghost use Rattle.metalog.specs.Trace.{WritesTrace};
+ghost use Rattle.metalog.specs.UnderWay.{GoesOn, HandsOn, HasEnded, IsUnderWay};
+
 use crate::failure::Failure;
 use crate::joining::join;
 use crate::naming::Naming;
 use crate::options::{Options, Reports};
 use crate::output::Output;
 use crate::warnings::Warnings;
-use jvm_log::{Event, Listener, Machine, Placed, Said, Stop};
+use jvm_log::{Event, Listener, Machine, Placed, Said, Stop, Trouble};
 use ms_base::Step;
 use ms_trace::Command;
 use std::alloc::{AllocError, Global};
@@ -13,7 +21,7 @@ use std::io::Write;
 
 /// A log on its way to a trace.
 #[derive(Drop)]
-pub struct Conversion<'a, W: Write, E: Write> {
+pub struct Conversion<'a, E: Write> {
     alloc: Global,
     options: Options<'a>,
     machine: Machine,
@@ -22,39 +30,42 @@ pub struct Conversion<'a, W: Write, E: Write> {
     /// The lines of the trace so far, where blocks are to be joined.
     kept: Vec<Placed>,
     text: Output,
-    output: &'a mut W,
     errors: &'a mut E,
 }
 
-impl<'a, W: Write, E: Write> Listener for Conversion<'a, W, E> {
-    ghost use Rattle.metalog.specs.Release.{IsOfJdk17};
+impl<'a, E: Write> Listener for Conversion<'a, E> {
+    ghost use Rattle.metalog.specs.UnderWay.{Hears};
 
-    ghost hears = { λ _ _ _ said _. IsOfJdk17 said };
+    ghost hears = { λ old _ _ said new. Hears old said new };
 
     /// A line of another release ends the log: what the machine makes of the others is then no trace
     /// of that JVM.
-    fn hear(&mut self, number: u64, line: &[u8], said: Said) -> Result<(), Stop> {
+    fn hear<W: Write>(
+        &mut self,
+        output: &mut W,
+        number: u64,
+        line: &[u8],
+        said: Said,
+    ) -> Result<(), Stop> {
         if said.event == Event::OtherRelease {
             return Err(Stop::OtherRelease(number));
         }
-        if let Some(trouble) = self.machine.take_in(said)? {
-            self.warnings.tell(trouble, number, self.errors)?;
-        }
-        if self.options.names.is_some() {
-            self.learn(line, said.event)?;
-        }
-        self.hand_on()
+        let trouble = self.machine.take_in(said)?;
+        self.warn(trouble, number)?;
+        self.learn(line, said.event)?;
+        self.hand_on(output)
     }
 }
 
-impl<'a, W: Write, E: Write> Conversion<'a, W, E> {
+impl<'a, E: Write> Conversion<'a, E> {
     /// Makes one that has heard nothing.
     pub fn new(
         alloc: Global,
         options: Options<'a>,
-        output: &'a mut W,
         errors: &'a mut E,
-    ) -> Result<Conversion<'a, W, E>, AllocError> {
+    ) -> Result<Conversion<'a, E>, AllocError>
+        ensures { IfOk result (λ conversion. (bytes : Option (List ℕ)) → IsUnderWay bytes (conversion, bytes)) }
+    {
         Ok(Conversion {
             alloc,
             options,
@@ -63,13 +74,27 @@ impl<'a, W: Write, E: Write> Conversion<'a, W, E> {
             naming: Naming::new(alloc),
             kept: Vec::new(alloc),
             text: Output::new(alloc),
-            output,
             errors,
         })
     }
 
-    /// Keeps what a line tells of a loader.
-    fn learn(&mut self, line: &[u8], event: Event) -> Result<(), AllocError> {
+    /// Warns of what is wrong at a line.
+    fn warn(&mut self, trouble: Option<Trouble>, line: u64) -> Result<(), AllocError>
+        ensures { self.new ≡ record self.old { warnings = self.new.warnings; errors = self.new.errors } }
+    {
+        match trouble {
+            Some(trouble) => self.warnings.tell(trouble, line, self.errors),
+            None => Ok(()),
+        }
+    }
+
+    /// Keeps what a line says of a loader, where names are asked for.
+    fn learn(&mut self, line: &[u8], event: Event) -> Result<(), AllocError>
+        ensures { self.new ≡ record self.old { naming = self.new.naming } }
+    {
+        if self.options.names.is_none() {
+            return Ok(());
+        }
         match event {
             Event::ClassAdded { address, .. } => match self.machine.birth_at(address) {
                 Some(birth) => self.naming.describe(birth, line),
@@ -81,47 +106,84 @@ impl<'a, W: Write, E: Write> Conversion<'a, W, E> {
     }
 
     /// Hands on the lines that are known so far.
-    fn hand_on(&mut self) -> Result<(), Stop> {
+    fn hand_on<W: Write>(&mut self, output: &mut W) -> Result<(), Stop>
+        ensures { OnOk result (GoesOn (self.old, W.contents output.old) (self.new, W.contents output.new)) }
+    {
         for _ in 0..u64::MAX {
             let Some(line) = self.machine.next_line() else {
                 break;
             };
-            if self.options.names.is_some()
-                && let Command::Step(Step::New { loader, .. }) = line.command
-            {
-                self.naming.open(loader)?;
-            }
-            if self.options.merge.is_some() {
-                if self.kept.push(line).is_err() {
-                    return Err(Stop::OutOfMemory);
-                }
-            } else {
-                self.text.add(line.command, self.output)?;
-            }
+            self.hand_on_line(line, output)?;
         }
         Ok(())
     }
 
-    /// Ends a log of so many lines: writes what is left, and answers the text of the file of names.
-    pub fn finish(&mut self, lines: u64) -> Result<Vec<u8>, Failure> {
-        if let Some(trouble) = self.machine.finish() {
-            self.warnings.tell(trouble, lines, self.errors)?;
+    /// Hands on the line that the machine gave last.
+    fn hand_on_line<W: Write>(&mut self, line: Placed, output: &mut W) -> Result<(), Stop>
+        ensures { OnOk result (HandsOn line.command (self.old, W.contents output.old)
+            (self.new, W.contents output.new)) }
+    {
+        self.number(line.command)?;
+        if self.options.merge.is_none() {
+            return self.text.add(line.command, output);
         }
-        self.hand_on()?;
+        match self.kept.push(line) {
+            Ok(()) => Ok(()),
+            Err(_) => Err(Stop::OutOfMemory),
+        }
+    }
+
+    /// Keeps the number of the loader that a command opens, where names are asked for.
+    fn number(&mut self, command: Command) -> Result<(), AllocError>
+        ensures { self.new ≡ record self.old { naming = self.new.naming } }
+    {
+        match command {
+            Command::Step(Step::New { loader, .. }) if self.options.names.is_some() => {
+                self.naming.open(loader)
+            }
+            _ => Ok(()),
+        }
+    }
+
+    /// Hands on the lines that are kept, joined.
+    fn hand_on_kept<W: Write>(&mut self, output: &mut W) -> Result<(), Stop>
+        ensures { OnOk result ((start : Option (List ℕ)) → IsUnderWay start (self.old, W.contents output.old)
+            → HasEnded start (W.contents output.new) self.new.text.text.items) }
+    {
+        let Some(most) = self.options.merge else {
+            return Ok(());
+        };
+        join(self.alloc, &mut self.kept, most)?;
+        self.text.add_all(&self.kept, output)
+    }
+
+    /// Asks for a report at the end, unless none is wanted.
+    fn report<W: Write>(&mut self, output: &mut W) -> Result<(), Stop>
+        ensures { OnOk result ((start : Option (List ℕ))
+            → HasEnded start (W.contents output.old) self.old.text.text.items
+            → HasEnded start (W.contents output.new) self.new.text.text.items) }
+    {
+        if self.options.reports == Reports::None {
+            return Ok(());
+        }
+        self.text.add(Command::Report, output)
+    }
+
+    /// Ends a log of so many lines: writes what is left, and returns the text of the file of names.
+    pub fn finish<W: Write>(&mut self, lines: u64, output: &mut W) -> Result<Vec<u8>, Failure>
+        ensures { OnOk result ((start : Option (List ℕ)) → IsUnderWay start (self.old, W.contents output.old)
+            → WritesTrace start (W.contents output.new)) }
+    {
+        let trouble = self.machine.finish();
+        self.warn(trouble, lines)?;
+        self.hand_on(output)?;
         self.warnings.sum_up(self.errors);
         if self.machine.births() == 0 {
             return Err(Failure::NoLoader);
         }
-        if let Some(most) = self.options.merge {
-            join(self.alloc, &mut self.kept, most)?;
-            for line in &self.kept {
-                self.text.add(line.command, self.output)?;
-            }
-        }
-        if self.options.reports != Reports::None {
-            self.text.add(Command::Report, self.output)?;
-        }
-        self.text.write(self.output)?;
+        self.hand_on_kept(output)?;
+        self.report(output)?;
+        self.text.write(output)?;
         Ok(self.naming.text()?)
     }
 }

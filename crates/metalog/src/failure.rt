@@ -19,10 +19,10 @@ pub enum Failure {
     /// A growth was refused.
     #[error("metalog: out of memory")]
     OutOfMemory,
-    /// The input's device answered an error.
+    /// The input's device failed.
     #[error("metalog: input failed")]
     Input,
-    /// The output's device answered an error, or took nothing.
+    /// The output's device failed, or took nothing.
     #[error("metalog: output failed")]
     Output,
     /// The file of names could not be written.

@@ -1,5 +1,5 @@
 //! Joining blocks: those of one arena that come one after the other, lie side by side, and are never
-//! freed become one, so that a trace has fewer lines. This looks at the whole trace.
+//! freed become one, so that a trace has fewer lines. This needs the whole trace.
 //!
 //!     alloc 3 7 20  at 0x1000      0x1000 + 20 * 8 = 0x10a0
 //!     alloc 3 8 5   at 0x10a0      ->   alloc 3 7 25

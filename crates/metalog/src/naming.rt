@@ -1,4 +1,4 @@
-//! The loaders of a trace, with what the log tells of each.
+//! The loaders of a trace, with what the log says of each.
 ghost use Rattle.std.specs.Prelude.{◌≡◌, ◌++◌, ◌∷◌, [], IfOk, OnOk};
 ghost use Rattle.metalog.specs.Naming.{name_line, names_text, told_of};
 
@@ -6,16 +6,16 @@ use jvm_log::{name_in, owner_in};
 use std::alloc::{AllocError, Global};
 use std::collections::HashMap;
 
-/// What stands for a loader of which the log tells nothing.
+/// What stands for a loader of which the log says nothing.
 const UNKNOWN: &str = "?";
 
-/// What is told of the loaders.
+/// The names of the loaders.
 #[derive(Drop)]
 pub struct Naming {
     alloc: Global,
     /// The number of each, in the order of their lines.
     pub(crate) numbers: Vec<u16>,
-    /// What is told of each, by how many came before it.
+    /// What the log says of each, by how many came before it.
     pub(crate) texts: HashMap<u64, Vec<u8>>,
     /// How many came before the loader whose data lies at an address.
     births: HashMap<u64, u64>,
@@ -43,7 +43,7 @@ impl Naming {
         Ok(())
     }
 
-    /// Keeps what a line tells of the loader before which so many came.
+    /// Keeps what a line says of the loader before which so many came.
     pub fn describe(&mut self, birth: u64, line: &[u8]) -> Result<(), AllocError> {
         let Some(owner) = owner_in(line) else {
             return Ok(());
@@ -60,7 +60,7 @@ impl Naming {
         Ok(())
     }
 
-    /// Keeps the name that a line tells of a loader that was unloaded.
+    /// Keeps the name that a line gives to a loader that was unloaded.
     pub fn name(&mut self, line: &[u8]) -> Result<(), AllocError> {
         let Some((data, name)) = name_in(line) else {
             return Ok(());
@@ -78,7 +78,7 @@ impl Naming {
         Ok(())
     }
 
-    /// Returns a line for each loader: its number, a space, and what is told of it.
+    /// Returns a line for each loader: its number, a space, and what the log says of it.
     pub fn text(&self) -> Result<Vec<u8>, AllocError>
         ensures { IfOk result (λ text. text.items ≡ names_text self.now.texts.entries 0 self.now.numbers.items) }
     {

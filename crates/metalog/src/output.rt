@@ -1,9 +1,12 @@
 //! The lines of a trace, written in large pieces.
-ghost use Rattle.std.specs.Prelude.{◌≡◌, ◌++◌, [], OnOk};
+ghost use Rattle.std.specs.Prelude.{◌≡◌, ◌++◌, ◌∷◌, [], ℕ, List, Option, OnOk};
 ghost use Rattle.std.specs.Io.KnownBytes.{Appends};
+ghost use Rattle.ms_trace.specs.declared.trace.Command.{Command as CommandOf};
+ghost use Rattle.ms_trace.specs.Spelling.{IsValid};
 ghost use Rattle.metalog.specs.Output.{GoesOut, ReadsBack, line_of};
+ghost use Rattle.metalog.specs.Trace.{WritesLines, commands_of};
 
-use jvm_log::Stop;
+use jvm_log::{Placed, Stop};
 use ms_trace::{Command, print_command};
 use std::alloc::{AllocError, Global};
 use std::io::Write;
@@ -32,6 +35,9 @@ impl Output {
     pub fn add<W: Write>(&mut self, command: Command, output: &mut W) -> Result<(), Stop>
         ensures in_order { OnOk result (GoesOut (W.contents output.old) self.old.text.items (line_of command)
             (W.contents output.new) self.new.text.items) }
+        ensures lines { OnOk result ((start : Option (List ℕ)) (commands : List CommandOf)
+            → WritesLines start (W.contents output.old) self.old.text.items commands
+            → WritesLines start (W.contents output.new) self.new.text.items (commands ++ command ∷ [])) }
         ensures reads { ReadsBack command }
     {
         self.keep(command)?;
@@ -41,10 +47,23 @@ impl Output {
         Ok(())
     }
 
+    /// Adds those of so many.
+    pub fn add_all<W: Write>(&mut self, lines: &[Placed], output: &mut W) -> Result<(), Stop>
+        ensures { OnOk result ((start : Option (List ℕ)) (commands : List CommandOf)
+            → WritesLines start (W.contents output.old) self.old.text.items commands
+            → WritesLines start (W.contents output.new) self.new.text.items (commands ++ commands_of lines.now)) }
+    {
+        for at in 0..lines.len() {
+            self.add(lines[at].command, output)?;
+        }
+        Ok(())
+    }
+
     /// Keeps the line of a command.
     fn keep(&mut self, command: Command) -> Result<(), AllocError>
         ensures text { OnOk result (self.new.text.items ≡ self.old.text.items ++ line_of command) }
         ensures reads { ReadsBack command }
+        ensures valid { IsValid command }
     {
         print_command(&mut self.text, command)?;
         self.text.extend_from_slice(b"\n".as_slice())

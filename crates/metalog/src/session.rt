@@ -2,6 +2,7 @@
 //! lines of the trace. They are written as they come, or in the end where blocks are joined.
 ghost use Rattle.std.specs.Prelude.{◌≡◌, ◌≢◌, ◌≤◌, IfSome, OnOk};
 ghost use Rattle.metalog.specs.Release.{LogIsOfJdk17};
+ghost use Rattle.metalog.specs.Trace.{WritesTrace};
 
 use crate::conversion::Conversion;
 use crate::failure::Failure;
@@ -12,8 +13,9 @@ use std::fs;
 use std::io::{BufRead, Write};
 use std::rt::Files;
 
-/// Reads a log and writes its trace; answers the exit status. Warnings go to `errors`. Reading ends
-/// at the first line of another release than JDK 17, and nothing is written from there on.
+/// Reads a log and writes its trace; returns the exit status. Warnings go to `errors`. Reading ends
+/// at the first line of another release than JDK 17, and nothing is written from there on. At status
+/// 0 the output has grown by a trace.
 #[tactic(auto, using(crate::proofs::StatusLemmas::status_is_few, crate::proofs::StatusLemmas::status_is_no_usage, crate::proofs::StatusLemmas::status_is_no_success))]
 pub fn session<T: Files, R: BufRead, W: Write, E: Write>(
     rt: &T,
@@ -26,6 +28,7 @@ pub fn session<T: Files, R: BufRead, W: Write, E: Write>(
     ensures no_usage { result ≢ 2 }
     ensures statuses { result ≤ 5 }
     ensures release { result ≡ 0 → IfSome (R.remaining input.old) LogIsOfJdk17 }
+    ensures trace { result ≡ 0 → WritesTrace (W.contents output.old) (W.contents output.new) }
 {
     match convert(alloc, options, input, output, errors) {
         Ok(names) => match keep_names(rt, options, &names) {
@@ -36,7 +39,7 @@ pub fn session<T: Files, R: BufRead, W: Write, E: Write>(
     }
 }
 
-/// Reads a log of JDK 17 and writes its trace; answers the text of the file of names.
+/// Reads a log of JDK 17 and writes its trace; returns the text of the file of names.
 fn convert<R: BufRead, W: Write, E: Write>(
     alloc: Global,
     options: &Options,
@@ -44,11 +47,12 @@ fn convert<R: BufRead, W: Write, E: Write>(
     output: &mut W,
     errors: &mut E,
 ) -> Result<Vec<u8>, Failure>
-    ensures { OnOk result (IfSome (R.remaining input.old) LogIsOfJdk17) }
+    ensures release { OnOk result (IfSome (R.remaining input.old) LogIsOfJdk17) }
+    ensures trace { OnOk result (WritesTrace (W.contents output.old) (W.contents output.new)) }
 {
-    let mut conversion = Conversion::new(alloc, *options, output, errors)?;
-    let lines = read_log(alloc, input, &mut conversion)?;
-    conversion.finish(lines)
+    let mut conversion = Conversion::new(alloc, *options, errors)?;
+    let lines = read_log(alloc, input, &mut conversion, output)?;
+    conversion.finish(lines, output)
 }
 
 /// Writes the file of names, where it is asked for.

@@ -1,6 +1,8 @@
 //! The program as a call: the command line is judged, then the log is read.
-ghost use Rattle.std.specs.Prelude.{◌≡◌, ◌≤◌, ◌⊎◌, IfSome};
+ghost use Rattle.std.specs.Prelude.{◌≡◌, ◌≤◌, ◌⊎◌, IfSome, map};
+ghost use Rattle.metalog.specs.CommandLine.{AskToBeTold};
 ghost use Rattle.metalog.specs.Release.{LogIsOfJdk17};
+ghost use Rattle.metalog.specs.Trace.{WritesTrace};
 
 use crate::failure::Failure;
 use crate::options::{Refused, options_of};
@@ -10,12 +12,12 @@ use std::convert::AsStr;
 use std::io::{BufRead, Write};
 use std::rt::Files;
 
-/// Reads a command line, whose first word is the program's name, and does what it asks for; answers
+/// Reads a command line, whose first word is the program's name, and does what it asks for; returns
 /// the exit status.
 ///
 /// 0: the trace is written, or the help or the version. 1: nothing can be made of the log, or it is of
-/// another release than JDK 17. 2: the command line is refused, and nothing was read. 3: memory was
-/// wanting. 5: a device failed. What is wrong is told on `errors`. This project's choice.
+/// another release than JDK 17. 2: the command line is refused, and nothing was read. 3: memory
+/// ran out. 5: a device failed. What is wrong goes to `errors`. This project's choice.
 #[tactic(auto, using(crate::proofs::StatusLemmas::status_is_few, crate::proofs::StatusLemmas::status_is_no_usage, crate::proofs::StatusLemmas::status_is_no_success))]
 pub fn start<T: Files, S: AsStr, R: BufRead, W: Write, E: Write>(
     rt: &T,
@@ -29,6 +31,8 @@ pub fn start<T: Files, S: AsStr, R: BufRead, W: Write, E: Write>(
     ensures statuses { result ≤ 5 }
     ensures release { result ≡ 0 → (R.remaining input.new ≡ R.remaining input.old)
         ⊎ IfSome (R.remaining input.old) LogIsOfJdk17 }
+    ensures trace { result ≡ 0 → AskToBeTold (map S.text words.now)
+        ⊎ WritesTrace (W.contents output.old) (W.contents output.new) }
 {
     match options_of(alloc, words) {
         Ok(options) => session(rt, alloc, &options, input, output, errors),

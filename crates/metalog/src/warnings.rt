@@ -1,5 +1,5 @@
-//! What is wrong with a log, told on standard error: the first line of each kind at once, and how
-//! many there were in the end.
+//! Warnings about a log on standard error: the first line of each kind at once, and how many there
+//! were in the end.
 ghost use Rattle.std.specs.Prelude.{◌≡◌, ◌≢◌, ◌<◌, ℕ, [], Some, IfSome, IfNone, OnOk, length, slice_get};
 ghost use Rattle.metalog.specs.Warnings.{Counts, IsKnown};
 
@@ -7,10 +7,10 @@ use jvm_log::Trouble;
 use std::alloc::{AllocError, Global};
 use std::io::Write;
 
-/// What was told so far.
+/// The warnings so far.
 #[derive(Drop)]
 pub struct Warnings {
-    /// Each kind that was told, and how many lines it had.
+    /// Each kind that had a warning, and how many lines it had.
     pub(crate) told: Vec<(Trouble, u64)>,
 }
 
@@ -24,7 +24,7 @@ impl Warnings {
         }
     }
 
-    /// Counts what is wrong at a line, and tells it where it is the first of its kind.
+    /// Counts what is wrong at a line, and writes a warning where it is the first of its kind.
     pub fn tell<E: Write>(
         &mut self,
         trouble: Trouble,
@@ -44,7 +44,7 @@ impl Warnings {
         Ok(())
     }
 
-    /// Finds a kind among those that were told.
+    /// Finds a kind among those that had a warning.
     fn place_of(&self, trouble: Trouble) -> Option<usize>
         ensures inside { IfSome result (λ at. at < length self.now.told.items) }
         ensures found { IfSome result (λ at. (count : ℕ) × (slice_get self.now.told.items at ≡ Some (trouble, count))) }
@@ -58,7 +58,7 @@ impl Warnings {
         None
     }
 
-    /// Returns of which kind there were more.
+    /// Writes of which kinds there were more.
     pub fn sum_up<E: Write>(&self, errors: &mut E) {
         for (trouble, count) in &self.told {
             if *count > 1 {

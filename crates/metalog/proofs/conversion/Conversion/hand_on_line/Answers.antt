@@ -1,0 +1,12 @@
+-- A line goes out, or is kept to be joined.
+use Rattle.metalog.proofs.TraceLemmas.{ok_map}
+use Rattle.metalog.proofs.UnderWayLemmas.{hands_out}
+use Rattle.metalog.proofs.conversion.Conversion.hand_on_line.Goals as goal
+
+pub returns-then-is_none : goal.returns-then-is_none
+returns-then-is_none g c =
+    ok_map c.add.result _ _
+    (λ lines.
+    hands_out c.args.self.now c.number.new.self c.add.new.self (g.W.Write.contents c.args.output.now)
+    (g.W.Write.contents c.add.new.output) c.args.line.command c.in_ok-number.ensures c.if-is_none.ensures lines)
+    c.add.ensures.lines
