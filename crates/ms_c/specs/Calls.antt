@@ -9,12 +9,14 @@ use Rattle.ms_loaders.specs.declared.system.sums.LoaderTotals.{LoaderTotals}
 use Rattle.ms_c.specs.declared.answer.Answer.{Answer}
 use Rattle.ms_c.specs.declared.totals.LoaderSums.{LoaderSums}
 use Rattle.ms_c.specs.declared.options.Options.{Options}
+use Rattle.ms_c.specs.declared.runs.Run.{Run}
 use Rattle.ms_c.specs.Answers.{numbers, bad_kind, no_seat, not_held, told_by}
 use Rattle.ms_c.specs.Kinds.{kind_number}
 use Rattle.ms_c.specs.Sums.{loader_told}
 use Rattle.ms_c.specs.Settings.{AreSettings, AreFit}
 use Rattle.ms_c.specs.Seating.{Seated}
 use Rattle.ms_c.specs.Member.{MemberState, IsFirst, Splits, AnswersNew, TellsPool, Purges, AreItsSums}
+use Rattle.ms_c.specs.Member.{FindsRun}
 
 -- The member is answered so.
 pub record Called (is : MemberState → Option Reply → MemberState → Type 0) (before : MemberState) (answer : Answer)
@@ -92,6 +94,12 @@ pub record TellsGranules (seat : Seated) (first count : ℕ) (bits : List Bool) 
   pub member : MemberState
   pub is : seat ≡ Some member
   pub told : TellsPool member first count bits
+
+-- The next run of the granules that went, in the pool that the seat has.
+pub record FindsWent (seat : Seated) (was : List Bool) (from : ℕ) (run : Run) : Type 0 where
+  pub member : MemberState
+  pub is : seat ≡ Some member
+  pub found : FindsRun member was from run
 
 -- The seat doesn't have the pool.
 pub record IsAlone (seat : Seated) : Type 0 where

@@ -28,6 +28,8 @@ use Rattle.ms_loaders.specs.Sums.{AreSumsIn}
 use Rattle.ms_loaders.specs.declared.system.sums.LoaderTotals.{LoaderTotals}
 use Rattle.ms_shared.specs.declared.lock_rule.SeatView.{SeatView}
 use Rattle.ms_shared.specs.SeatView.{LockState, SeatState, HeldState, ServesBy, opened_by, new_seats}
+use Rattle.ms_c.specs.declared.runs.Run.{Run}
+use Rattle.ms_c.specs.Uncommitted.{is_uncommitted, commits_in, IsNext}
 use Rattle.ms_shared.specs.LockCalls.{TookHeld, GrewHeld, OpenedBothHeld, ClosedBothHeld, PurgedHeld}
 
 -- The seat, alone or with the pool that it has; seats to spare; and the loader, if there is one.
@@ -264,6 +266,13 @@ pub record TellsPool (member : MemberState) (first count : ℕ) (bits : List Boo
   pub held : HeldState
   pub has : member.held ≡ Some held
   pub bits_are : bits ≡ map (granule_at held.pool first) (range_with_len 0 count)
+
+-- The next run, from a granule on, of those that were committed by their flags and are no more in
+-- the pool that the seat has.
+pub record FindsRun (member : MemberState) (was : List Bool) (from : ℕ) (run : Run) : Type 0 where
+  pub held : HeldState
+  pub has : member.held ≡ Some held
+  pub next : IsNext (is_uncommitted was (commits_in held.pool.committed held.pool.class_committed)) from run
 
 -- What is told of a loader's answer over the pool.
 abbrev pub block_told : Result Block Refusal → Reply

@@ -16,8 +16,10 @@
 
 mod answer;
 mod committing;
+mod granules;
 mod holding;
 mod kinds;
+mod laws;
 mod making;
 mod member;
 mod options;
@@ -32,3 +34,4 @@ mod slot;
 mod steps;
 mod telling;
 mod totals;
+mod uncommitting;

@@ -22,7 +22,7 @@ pub extern "C" fn nizgrabul_version() -> u32
 }
 
 /// Makes a system with no loader in an empty handle, under the settings that the options name.
-/// Answers IN_USE exactly where the handle has a system already, in an empty one BAD_SETTINGS
+/// Returns IN_USE exactly where the handle has a system already, in an empty one BAD_SETTINGS
 /// exactly where an option is out of its range, and else DONE or OUT_OF_MEMORY; all but DONE leave
 /// the handle as it was. Takes memory.
 #[unsafe(no_mangle)]

@@ -11,11 +11,14 @@ ghost use Rattle.std.specs.Prelude.{◌≡◌, IsTrue, IsFalse, IfSome, IfNone, 
 ghost use Rattle.std.specs.List.{All, range_with_len};
 ghost use Rattle.std.specs.Arc.{arc_value};
 ghost use Rattle.ms_c.specs.Member.{free_seat, Holds, LetsGo, LacksPool, used_of_it, TellsPool, granule_at, AreItsSums};
+ghost use Rattle.ms_c.specs.Member.{FindsRun};
 
 mod loading;
 mod place;
 mod sharing;
 
+use crate::granules::next_run;
+use crate::runs::Run;
 use ms_loaders::{Loader, LoaderTotals};
 use ms_shared::{HeldSeat, PoolSeat, SharedPool};
 use std::alloc::Global;
@@ -179,6 +182,18 @@ impl Member {
                 true
             }
             None => false,
+        }
+    }
+
+    /// Returns the first run, from a granule on, of those that were committed by their flags and are
+    /// no more in the pool, where the seat has that. Takes no memory.
+    pub fn next_uncommitted(&self, was: &[bool], from: u64) -> Option<Run>
+        ensures found { IfSome result (FindsRun self.now was.now from) }
+        ensures lacks { IfNone result (self.now.held ≡ None) }
+    {
+        match &self.held {
+            Some(held) => Some(next_run(held, was, from)),
+            None => None,
         }
     }
 }

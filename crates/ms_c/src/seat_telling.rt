@@ -26,9 +26,9 @@ pub extern "C" fn nizgrabul_seat_used(alloc: Global, seat: &mut Seat) -> u64
     }
 }
 
-/// Returns of each granule from the first on, as many as `out` has places, whether it is committed
-/// in the pool that the seat has. Answers DONE; NOT_HELD exactly where the seat doesn't have the
-/// pool, and NO_SEAT, which leave `out` as it was. Takes no memory.
+/// Writes to `out` of each granule from `first` on, as many as it has places, whether it is
+/// committed in the pool that the seat has. Returns DONE; NOT_HELD exactly where the seat doesn't
+/// have the pool, and NO_SEAT, which leave `out` as it was. Takes no memory.
 #[unsafe(no_mangle)]
 pub extern "C" fn nizgrabul_seat_granules(
     alloc: Global,
@@ -52,9 +52,9 @@ pub extern "C" fn nizgrabul_seat_granules(
     if has_told { DONE } else { NOT_HELD }
 }
 
-/// Returns the sums of the seat's loader. Answers DONE, NO_SEAT, or NO_LOADER where there is none;
-/// all but DONE leave `out` as it was. Takes no memory; visits each chunk of the loader, and no
-/// block.
+/// Writes the sums of the seat's loader to `out`. Returns DONE, NO_SEAT, or NO_LOADER where there
+/// is none; all but DONE leave `out` as it was. Takes no memory; visits each chunk of the loader,
+/// and no block.
 #[unsafe(no_mangle)]
 pub extern "C" fn nizgrabul_seat_totals(alloc: Global, seat: &mut Seat, out: &mut LoaderSums) -> u32
     ensures totals { result ≡ DONE → TellsIts seat.old.slot.held out.new }
