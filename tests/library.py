@@ -74,7 +74,7 @@ def example_tree(bench, name):
     folder, release = os.path.join(copy, "examples", "c"), os.path.join(copy, "release")
     for place in (folder, release):
         os.makedirs(place)
-    for file in ("Makefile", "nizgrabul.h", "calls.c", "runtime.c", "threads.c"):
+    for file in ("Makefile", "nizgrabul.h", "nizgrabul.pc", "calls.c", "runtime.c", "threads.c"):
         shutil.copy(os.path.join(EXAMPLES, file), folder)
     with open(os.path.join(release, "libms_c.a.xz"), "wb") as file:
         file.write(printed(["xz", "-c", ARCHIVE]))
@@ -89,6 +89,23 @@ def is_made_by_its_makefile(bench):
     expect_calls_answered(os.path.join(folder, "calls"))
     printed([os.path.join(folder, "runtime")])
     expect_threads_served([os.path.join(folder, "threads")])
+
+
+def is_found_by_pkg_config(bench):
+    """Installed in a folder of its own, the library is found there by pkg-config, and a program is built by what that says."""
+    if not shutil.which("pkg-config"):
+        raise Skipped("pkg-config")
+    folder = example_tree(bench, "library_install")
+    others = {name: word for name, word in os.environ.items() if name not in OF_MAKE}
+    prefix = os.path.join(folder, "installed")
+    printed(["make", "-C", folder, "install", f"PREFIX={prefix}"], env=others)
+    found = {**others, "PKG_CONFIG_PATH": os.path.join(prefix, "lib", "pkgconfig")}
+    words = printed(["pkg-config", "--cflags", "--libs", "nizgrabul"], env=found).decode().split()
+    version = printed(["pkg-config", "--modversion", "nizgrabul"], env=found).decode().strip()
+    expect(f"#define NIZGRABUL_VERSION {version}\n" in header(), "the header has another version than", version)
+    program = os.path.join(folder, "installed_calls")
+    printed([*compiler(), "-o", program, os.path.join(folder, "calls.c"), *words])
+    expect_calls_answered(program)
 
 
 def makefile_says_what_is_missing(bench):
@@ -228,6 +245,7 @@ def runs_from_rust(bench):
 def tests():
     yield Test("library: each call answers from C", answers_each_call)
     yield Test("library: the example's Makefile builds it", is_made_by_its_makefile)
+    yield Test("library: pkg-config finds it installed", is_found_by_pkg_config)
     yield Test("library: the Makefile says what is missing", makefile_says_what_is_missing)
     yield Test("library: real memory follows the account", commits_real_memory)
     yield Test("library: each call of a seat answers", answers_each_seat)

@@ -46,6 +46,7 @@ static void run(void) {
     nizgrabul_options wrong = {.nodes = 65, .class_nodes = 1, .max_granules = 2, .policy = NIZGRABUL_BALANCED};
     nizgrabul_seat a = {0}, b = {0}, c = {0};
     nizgrabul_sums_of_loader sums = {.kind = 7};
+    nizgrabul_run went = {.first = 7};
     bool bits[2] = {true, true};
     ANSWERS(nizgrabul_share(&wrong, 2, &a), BAD_SETTINGS);
     ANSWERS(nizgrabul_share(&options, 0, &a), BAD_SETTINGS);
@@ -58,6 +59,7 @@ static void run(void) {
     ANSWERS(nizgrabul_seat_alloc(&a, 1, 1).status, NO_SEAT);
     ANSWERS(nizgrabul_seat_free(&a, 1).status, NO_SEAT);
     ANSWERS(nizgrabul_seat_granules(&a, 0, bits, 2), NO_SEAT);
+    ANSWERS(nizgrabul_seat_next_uncommitted(&a, bits, 2, 0, &went), NO_SEAT);
     ANSWERS(nizgrabul_seat_purge(&a).status, NO_SEAT);
     ANSWERS(nizgrabul_seat_totals(&a, &sums), NO_SEAT);
     IS(nizgrabul_seat_used(&a) == 0);
@@ -74,6 +76,8 @@ static void run(void) {
     ANSWERS(nizgrabul_seat_free(&a, 1).status, NO_LOADER);
     ANSWERS(nizgrabul_seat_let_go(&a), NOT_HELD);
     ANSWERS(nizgrabul_seat_granules(&a, 0, bits, 2), NOT_HELD);
+    ANSWERS(nizgrabul_seat_next_uncommitted(&a, bits, 2, 0, &went), NOT_HELD);
+    IS(went.first == 7);
     ANSWERS(nizgrabul_seat_purge(&a).status, NOT_HELD);
     ANSWERS(nizgrabul_seat_totals(&a, &sums), NO_LOADER);
     IS(sums.kind == 7);
@@ -90,6 +94,8 @@ static void run(void) {
     ANSWERS(nizgrabul_seat_alloc(&a, 1, 100).status, BLOCK_EXISTS);
     ANSWERS(nizgrabul_seat_granules(&a, 0, bits, 2), DONE);
     IS(bits[0] && !bits[1]);
+    ANSWERS(nizgrabul_seat_next_uncommitted(&a, bits, 2, 0, &went), DONE);
+    IS(went.first == 0 && went.granules == 0 && went.came == 0);
     IS(nizgrabul_seat_used(&a) == 100);
     ANSWERS(nizgrabul_seat_let_go(&a), DONE);
     /* The first chunk has 512 words: 400 more fit, and no more. */
@@ -115,6 +121,10 @@ static void run(void) {
     ANSWERS(nizgrabul_seat_hold(&a), DONE);
     ANSWERS(nizgrabul_seat_unload(&a).status, DONE);
     IS(nizgrabul_seat_used(&a) == 0);
+    ANSWERS(nizgrabul_seat_next_uncommitted(&a, bits, 2, 0, &went), DONE);
+    IS(went.first == 0 && went.granules == 1 && went.came == 0);
+    ANSWERS(nizgrabul_seat_next_uncommitted(&a, bits, 2, 1, &went), DONE);
+    IS(went.first == 1 && went.granules == 0);
     ANSWERS(nizgrabul_seat_granules(&a, 0, bits, 2), DONE);
     IS(!bits[0] && !bits[1]);
     nizgrabul_answer gone = nizgrabul_seat_purge(&a);

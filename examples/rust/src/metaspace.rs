@@ -47,7 +47,7 @@ mod ffi {
 }
 
 /// The version of nizgrabul.h that this file was written by.
-pub const VERSION: u32 = 5;
+pub const VERSION: u32 = 6;
 
 /// The settings of a system, under the policy balanced.
 #[derive(Clone, Copy)]
