@@ -229,17 +229,28 @@ def words(comment):
     return [word for word in re.sub(r"`(nizgrabul_\w+)`", r"\1", comment).split() if word not in MARKS]
 
 
-def runs_from_rust(bench):
+def runs_from_rust(bench, program):
     """A safe wrapper in plain Rust, built with cargo and no dependency."""
     if not shutil.which("cargo") or not shutil.which("rustc"):
         raise Skipped("cargo and rustc")
     folder = os.path.join(ROOT, "examples", "rust")
     environment = {**os.environ, "NIZGRABUL": OUT, "TOOLCHAIN_C": os.path.join(toolchain(), "c")}
     room = bench.built("library_rust")
-    found = printed(["cargo", "run", "--quiet", "--offline", "--target-dir", room], cwd=folder, env=environment)
-    with open(os.path.join(folder, "classes.out"), "rb") as file:
+    run = ["cargo", "run", "--quiet", "--offline", "--target-dir", room, "--bin", program]
+    found = printed(run, cwd=folder, env=environment)
+    with open(os.path.join(folder, f"{program}.out"), "rb") as file:
         wanted = file.read()
     expect(found == wanted, first_difference(found, wanted))
+
+
+def refuses_misuse_in_rust(bench):
+    """The wrapper's examples of what its lifetimes and its ownership forbid do not compile."""
+    if not shutil.which("cargo") or not shutil.which("rustdoc"):
+        raise Skipped("cargo and rustdoc")
+    environment = {**os.environ, "NIZGRABUL": OUT, "TOOLCHAIN_C": os.path.join(toolchain(), "c")}
+    run = ["cargo", "test", "--offline", "--doc", "--target-dir", bench.built("library_rust")]
+    found = printed(run, cwd=os.path.join(ROOT, "examples", "rust"), env=environment)
+    expect(b"test result: ok. 2 passed; 0 failed" in found, found)
 
 
 def tests():
@@ -257,4 +268,6 @@ def tests():
     yield Test("library: the header is C++ too", fits_a_cpp_program)
     yield Test("library: exports have the prefix", exports_are_the_headers)
     yield Test("library: the header has the docs' words", comments_are_the_crates)
-    yield Test("library: a safe wrapper in Rust", runs_from_rust)
+    yield Test("library: a safe wrapper in Rust", runs_from_rust, ("classes",))
+    yield Test("library: safe threads in Rust over one pool", runs_from_rust, ("threads",))
+    yield Test("library: misuse in Rust does not compile", refuses_misuse_in_rust)
