@@ -46,6 +46,8 @@
  *     alloc, calloc                     seat_alloc, seat_calloc allocates a block by a number of the program's own
  *     alloc_with_run, calloc_with_run                           and returns the granules that became committed
  *     free                              seat_free               frees a block by its number
+ *                                       seat_new_arenas         makes a class loader without numbers for its blocks
+ *                                       seat_take, seat_give    allocates and frees a block of it by start and words
  *     free_block                                                frees a block by its start and words
  *     purge                             seat_purge              gives unused nodes back
  *     next_uncommitted                  seat_next_uncommitted   returns the granules to give back, run by run
@@ -380,15 +382,15 @@ uint32_t nizgrabul_seat_hold(nizgrabul_seat *seat);
  * nothing, and else DONE. Takes no memory. */
 uint32_t nizgrabul_seat_let_go(nizgrabul_seat *seat);
 
-/* Makes the seat's loader, with nothing of its own, over the pool that the seat has. The kind is 0 standard, 1
- * boot, 2 reflection or 3 hidden; any other is refused with BAD_KIND. Refused with NO_SEAT, LOADER_EXISTS,
- * NOT_HELD and IDS_USED_UP. Takes no memory. */
+/* Makes the seat's loader, with nothing of its own and with numbers for its blocks, over the pool that the seat
+ * has. The kind is 0 standard, 1 boot, 2 reflection or 3 hidden; any other is refused with BAD_KIND. Refused
+ * with NO_SEAT, LOADER_EXISTS, NOT_HELD and IDS_USED_UP. Takes no memory. */
 nizgrabul_answer nizgrabul_seat_new_loader(nizgrabul_seat *seat, uint32_t kind);
 
-/* Unloads the seat's loader, over the pool that the seat has: all its blocks and chunks go with it, and the
- * seat may make another. Under the policies balanced and aggressive just the granules stay committed that a
- * chunk of another loader still needs; under none all stay. Refused with NO_SEAT, NO_LOADER and NOT_HELD.
- * Takes no memory. */
+/* Unloads the seat's loader, with numbers for its blocks or without, over the pool that the seat has: all its
+ * blocks and chunks go with it, and the seat may make another. Under the policies balanced and aggressive just
+ * the granules stay committed that a chunk of another loader still needs; under none all stay. Refused with
+ * NO_SEAT, NO_LOADER and NOT_HELD. Takes no memory. */
 nizgrabul_answer nizgrabul_seat_unload(nizgrabul_seat *seat);
 
 /* Allocates a block of so many words, 1 to 524288, outside the class space, under a number that the seat's
@@ -408,17 +410,37 @@ nizgrabul_answer nizgrabul_seat_calloc(nizgrabul_seat *seat, uint32_t block, uin
  * loader has no live block of the number. Takes no memory. */
 nizgrabul_answer nizgrabul_seat_free(nizgrabul_seat *seat, uint32_t block);
 
+/* Makes the seat's loader, over the pool that the seat has, without numbers for its blocks: a block is known by
+ * its space, its start and its words. The kind is one of nizgrabul_seat_new_loader's; any other is refused with
+ * BAD_KIND. Refused with NO_SEAT, LOADER_EXISTS, NOT_HELD and IDS_USED_UP. Takes no memory. */
+nizgrabul_answer nizgrabul_seat_new_arenas(nizgrabul_seat *seat, uint32_t kind);
+
+/* Allocates a block of so many words, 1 to 524288, of the seat's loader without numbers; `value` is the word
+ * where it starts, in the class space or outside it. One word makes a block of two. Where the seat has the
+ * pool, granules may become committed. Where it doesn't, no lock is tried: the block comes of the committed
+ * words that the loader has, and the call returns NOT_HELD where these don't serve. Refused, in this order,
+ * with NO_SEAT, NO_LOADER, ZERO_WORDS, TOO_LARGE, and with NOT_HELD, RESERVE_LIMIT, COMMIT_LIMIT or
+ * OUT_OF_MEMORY. Takes memory. */
+nizgrabul_answer nizgrabul_seat_take(nizgrabul_seat *seat, bool class_space, uint64_t words);
+
+/* Frees the live block of the seat's loader without numbers that starts there and has so many words, at least
+ * two: its words become a free block of the loader. No granule changes, and the pool isn't needed. Refused with
+ * NO_SEAT, NO_LOADER, and with NOT_LIVE exactly where the loader has no such live block in that space, and then
+ * nothing changes. Takes no memory. */
+nizgrabul_answer nizgrabul_seat_give(nizgrabul_seat *seat, bool class_space, uint64_t start, uint64_t words);
+
 /* Gives the nodes of the pool that the seat has back in which no chunk is held; `value` is how many they
  * were. Those of the class space stay. No granule of a node that went is committed; only under the policy
  * none one can have been. Refused with NO_SEAT and NOT_HELD. Takes no memory. */
 nizgrabul_answer nizgrabul_seat_purge(nizgrabul_seat *seat);
 
-/* Returns the words in use of the seat's loader, in both spaces, and 0 where there is none. Takes no
- * memory. */
+/* Returns the words in use of the seat's loader, with numbers for its blocks or without, in both spaces, and 0
+ * where there is none. Takes no memory. */
 uint64_t nizgrabul_seat_used(nizgrabul_seat *seat);
 
-/* Writes the sums of the seat's loader to `out`. Returns DONE, NO_SEAT, or NO_LOADER where there is none; all
- * but DONE leave `out` as it was. Takes no memory; visits each chunk of the loader, and no block. */
+/* Writes the sums of the seat's loader to `out`. Returns DONE, NO_SEAT, or NO_LOADER where there is none with
+ * numbers; all but DONE leave `out` as it was. Takes no memory; visits each chunk of the loader, and no block.
+ * */
 uint32_t nizgrabul_seat_totals(nizgrabul_seat *seat, nizgrabul_sums_of_loader *out);
 
 /* Writes to `out` of each granule from `first` on, as many as it has places, whether it is committed in the

@@ -41,6 +41,41 @@ void __wrap_free(void *block) {
 } while (0)
 #define IS(holds) do { if (!(holds) && !line) line = __LINE__; } while (0)
 
+/* Blocks that are known by their starts. The seat has the pool, which is as new. */
+static void run_without_numbers(nizgrabul_seat *a) {
+    nizgrabul_answer block;
+    ANSWERS(nizgrabul_seat_new_arenas(a, 0).status, DONE);
+    ANSWERS(nizgrabul_seat_new_arenas(a, 0).status, LOADER_EXISTS);
+    ANSWERS(nizgrabul_seat_new_loader(a, 0).status, LOADER_EXISTS);
+    ANSWERS(nizgrabul_seat_alloc(a, 1, 100).status, NO_LOADER);
+    ANSWERS(nizgrabul_seat_free(a, 1).status, NO_LOADER);
+    TAKES((block = nizgrabul_seat_take(a, false, 100)).status, DONE);
+    IS(block.value == 0);
+    TAKES((block = nizgrabul_seat_take(a, true, 1)).status, DONE);
+    IS(block.value >= 67108864 && nizgrabul_seat_used(a) == 102);
+    ANSWERS(nizgrabul_seat_let_go(a), DONE);
+    ANSWERS(nizgrabul_seat_give(a, false, block.value, 2).status, NOT_LIVE);
+    ANSWERS(nizgrabul_seat_give(a, true, block.value, 1).status, NOT_LIVE);
+    ANSWERS(nizgrabul_seat_give(a, true, block.value, 2).status, DONE);
+    ANSWERS(nizgrabul_seat_give(a, true, block.value, 2).status, NOT_LIVE);
+    ANSWERS(nizgrabul_seat_give(a, false, 0, 99).status, NOT_LIVE);
+    ANSWERS(nizgrabul_seat_give(a, false, 1, 99).status, NOT_LIVE);
+    TAKES((block = nizgrabul_seat_take(a, false, 412)).status, DONE);
+    IS(block.value == 100);
+    TAKES(nizgrabul_seat_take(a, false, 2).status, NOT_HELD);
+    ANSWERS(nizgrabul_seat_take(a, false, 0).status, ZERO_WORDS);
+    ANSWERS(nizgrabul_seat_take(a, false, 600000).status, TOO_LARGE);
+    ANSWERS(nizgrabul_seat_give(a, false, 0, 100).status, DONE);
+    TAKES((block = nizgrabul_seat_take(a, false, 100)).status, DONE);
+    IS(block.value == 0 && nizgrabul_seat_used(a) == 514);
+    ANSWERS(nizgrabul_seat_unload(a).status, NOT_HELD);
+    ANSWERS(nizgrabul_seat_hold(a), DONE);
+    TAKES(nizgrabul_seat_take(a, false, 8193).status, COMMIT_LIMIT);
+    ANSWERS(nizgrabul_seat_unload(a).status, DONE);
+    ANSWERS(nizgrabul_seat_unload(a).status, NO_LOADER);
+    IS(nizgrabul_seat_used(a) == 0);
+}
+
 static void run(void) {
     nizgrabul_options options = {.nodes = 1, .class_nodes = 1, .max_granules = 2, .policy = NIZGRABUL_BALANCED};
     nizgrabul_options wrong = {.nodes = 65, .class_nodes = 1, .max_granules = 2, .policy = NIZGRABUL_BALANCED};
@@ -58,6 +93,9 @@ static void run(void) {
     ANSWERS(nizgrabul_seat_unload(&a).status, NO_SEAT);
     ANSWERS(nizgrabul_seat_alloc(&a, 1, 1).status, NO_SEAT);
     ANSWERS(nizgrabul_seat_free(&a, 1).status, NO_SEAT);
+    ANSWERS(nizgrabul_seat_new_arenas(&a, 0).status, NO_SEAT);
+    ANSWERS(nizgrabul_seat_take(&a, false, 1).status, NO_SEAT);
+    ANSWERS(nizgrabul_seat_give(&a, false, 0, 2).status, NO_SEAT);
     ANSWERS(nizgrabul_seat_granules(&a, 0, bits, 2), NO_SEAT);
     ANSWERS(nizgrabul_seat_next_uncommitted(&a, bits, 2, 0, &went), NO_SEAT);
     ANSWERS(nizgrabul_seat_purge(&a).status, NO_SEAT);
@@ -74,6 +112,10 @@ static void run(void) {
     ANSWERS(nizgrabul_seat_unload(&a).status, NO_LOADER);
     ANSWERS(nizgrabul_seat_alloc(&a, 1, 1).status, NO_LOADER);
     ANSWERS(nizgrabul_seat_free(&a, 1).status, NO_LOADER);
+    ANSWERS(nizgrabul_seat_new_arenas(&a, 4).status, BAD_KIND);
+    ANSWERS(nizgrabul_seat_new_arenas(&a, 0).status, NOT_HELD);
+    ANSWERS(nizgrabul_seat_take(&a, false, 1).status, NO_LOADER);
+    ANSWERS(nizgrabul_seat_give(&a, false, 0, 2).status, NO_LOADER);
     ANSWERS(nizgrabul_seat_let_go(&a), NOT_HELD);
     ANSWERS(nizgrabul_seat_granules(&a, 0, bits, 2), NOT_HELD);
     ANSWERS(nizgrabul_seat_next_uncommitted(&a, bits, 2, 0, &went), NOT_HELD);
@@ -88,6 +130,8 @@ static void run(void) {
     ANSWERS(nizgrabul_seat_new_loader(&b, 0).status, NOT_HELD);
     ANSWERS(nizgrabul_seat_new_loader(&a, 0).status, DONE);
     ANSWERS(nizgrabul_seat_new_loader(&a, 0).status, LOADER_EXISTS);
+    ANSWERS(nizgrabul_seat_new_arenas(&a, 0).status, LOADER_EXISTS);
+    ANSWERS(nizgrabul_seat_take(&a, false, 1).status, NO_LOADER);
     ANSWERS(nizgrabul_seat_granules(&a, 0, bits, 2), DONE);
     IS(!bits[0] && !bits[1]);
     TAKES(nizgrabul_seat_alloc(&a, 1, 100).status, DONE);
@@ -129,6 +173,7 @@ static void run(void) {
     IS(!bits[0] && !bits[1]);
     nizgrabul_answer gone = nizgrabul_seat_purge(&a);
     IS(gone.status == NIZGRABUL_DONE && gone.value == 1);
+    run_without_numbers(&a);
     nizgrabul_seat_end(&a);
     nizgrabul_seat_end(&a);
     IS(!a.live && blocks == 0);

@@ -1,8 +1,10 @@
 pub mod AloneLemmas
+pub mod ArenasLemmas
 pub mod AsBox
 pub mod AsSeat
 pub mod BitLemmas
 pub mod RunLemmas
 pub mod SeatedLemmas
 pub mod ServedLemmas
+pub mod TakingLemmas
 pub mod Walking

@@ -1,7 +1,9 @@
 -- What the calls of a seat answer in numbers, and what each is: a call of the member that the seat
 -- has.
-use Rattle.std.specs.Prelude.{◌≡◌, ℕ, ◌≤◌, ◌<◌, ◌⊎◌, Bool, List, [], Option, Some, None}
+use Rattle.std.specs.Prelude.{◌≡◌, ℕ, ◌≤◌, ◌<◌, ◌⊎◌, Bool, true, false, List, [], Option, Some, None}
 use Rattle.ms_base.specs.declared.kind.Kind.{Kind}
+use Rattle.ms_base.specs.declared.kind.Space.{Space}
+use Rattle.ms_base.specs.declared.kind.Space.TheVariants.{NonClass, Class}
 use Rattle.ms_base.specs.declared.settings.Settings.{Settings}
 use Rattle.ms_base.specs.declared.step.Reply.{Reply}
 use Rattle.ms_base.specs.State.{limits_of}
@@ -17,6 +19,7 @@ use Rattle.ms_c.specs.Settings.{AreSettings, AreFit}
 use Rattle.ms_c.specs.Seating.{Seated}
 use Rattle.ms_c.specs.Member.{MemberState, IsFirst, Splits, AnswersNew, TellsPool, Purges, AreItsSums}
 use Rattle.ms_c.specs.Member.{FindsRun}
+use Rattle.ms_c.specs.Taking.{AnswersNewArenas}
 
 -- The member is answered so.
 pub record Called (is : MemberState → Option Reply → MemberState → Type 0) (before : MemberState) (answer : Answer)
@@ -46,6 +49,21 @@ pub record LacksKind (before : Seated) (number : ℕ) (answer : Answer) (after :
 abbrev pub MakesLoaderAt : Seated → ℕ → Answer → Seated → Type 0
 MakesLoaderAt before number answer after =
     MakesKind before number answer after ⊎ LacksKind before number answer after
+
+-- So it is of a loader without names.
+pub record MakesArenasOf (before : Seated) (number : ℕ) (answer : Answer) (after : Seated) : Type 0 where
+  pub kind : Kind
+  pub kind_is : kind_number kind ≡ number
+  pub calls : Calls (AnswersNewArenas kind) before answer after
+
+abbrev pub MakesArenasAt : Seated → ℕ → Answer → Seated → Type 0
+MakesArenasAt before number answer after =
+    MakesArenasOf before number answer after ⊎ LacksKind before number answer after
+
+-- The space that C means.
+abbrev pub space_of : Bool → Space
+space_of true = Class
+space_of false = NonClass
 
 -- A pool was made under the settings of the options, and its first seat, which has the others to
 -- spare.

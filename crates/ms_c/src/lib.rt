@@ -25,6 +25,7 @@ mod member;
 mod options;
 mod parts;
 mod runs;
+mod seat_arenas;
 mod seat_slot;
 mod seat_steps;
 mod seat_telling;

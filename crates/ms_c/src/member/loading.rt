@@ -5,6 +5,8 @@
 ghost use Rattle.std.specs.Prelude.{◌≡◌, Option, IfSome, IfNone, IfOk, IfErr, OnErr};
 ghost use Rattle.ms_base.specs.declared.kind.Space.TheVariants.{NonClass, Class};
 ghost use Rattle.ms_loaders.specs.Loader.{LoaderView, account_in, AllocatesBlock};
+ghost use Rattle.ms_pool.specs.Account.{AccountState};
+ghost use Rattle.ms_shared.specs.SeatView.{ServesBy, opened_by};
 ghost use Rattle.ms_shared.specs.LockCalls.{TookHeld, GrewHeld, OpenedBothHeld, ClosedBothHeld, PurgedHeld};
 ghost use Rattle.ms_c.specs.Member.{AnswersNew, AnswersUnload, AnswersAlloc, AnswersFree, ServesLoader};
 ghost use Rattle.ms_c.specs.Member.{OpensLoader, AnswersAlone, AnswersWithout, AnswersOver, FreesIn};
@@ -28,6 +30,9 @@ impl Member {
         if self.loader.is_some() {
             return Some(Reply::Refused(Refusal::LoaderExists));
         }
+        if self.arenas.is_some() {
+            return Some(Reply::Refused(Refusal::LoaderExists));
+        }
         let Some(held) = self.held.take() else {
             return None;
         };
@@ -42,9 +47,9 @@ impl Member {
         }
     }
 
-    /// Unloads the loader: all its blocks and chunks go with it. Refused with `NoLoader` where there
-    /// is none; answers none where the seat doesn't have the pool. Takes no memory.
-    pub fn unload(&mut self) -> Option<Reply>
+    /// Unloads the loader with names: all its blocks and chunks go with it. Refused with `NoLoader`
+    /// where there is none; returns none where the seat doesn't have the pool. Takes no memory.
+    pub(super) fn unload_named(&mut self) -> Option<Reply>
         ensures { AnswersUnload self.old result self.new }
     {
         if self.loader.is_none() {
@@ -146,6 +151,9 @@ fn purge_over(shared: &SharedPool, held: HeldSeat) -> (HeldSeat, u32)
     ensures own { result.0.seat.id ≡ held.seat.id }
     ensures serves { (loader : Option LoaderView) → ServesIt held.seat.knows loader
         → ServesIt result.0.seat.knows loader }
+    ensures others { (account : AccountState) → ServesBy held.seat.knows account
+        → ServesBy result.0.seat.knows account }
+    ensures counted { opened_by result.0.seat.knows ≡ opened_by held.seat.knows }
     ensures purged { PurgedHeld held result.1 result.0 }
 {
     let mut pool = shared.resume(held);
@@ -199,8 +207,8 @@ fn ask_pool(
     (pool.pause(), answer)
 }
 
-/// Tells what a loader answers.
-fn tell_block(answer: Result<Block, Refusal>) -> Reply
+/// Returns what an allocation over the pool came to.
+pub(super) fn tell_block(answer: Result<Block, Refusal>) -> Reply
     ensures { result ≡ block_told answer }
 {
     match answer {
