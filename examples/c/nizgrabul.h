@@ -355,7 +355,11 @@ uint32_t nizgrabul_loader_totals(nizgrabul_handle *handle, uint16_t loader, nizg
  * No call of a seat waits for another thread. nizgrabul_seat_wait, at the end of this header, asks until the seat
  * has the pool; NIZGRABUL_WAIT(tries), defined before this header, puts a program's own way to wait in its place.
  * A pool ends with its last seat, and has at most 65536 of them; a seat whose loader was unloaded serves the next
- * one. There is no move of a loader between two seats: the seat moves. */
+ * one. There is no move of a loader between two seats: the seat moves.
+ *
+ * A loader made by nizgrabul_seat_new_arenas has no numbers for its blocks. It knows its live blocks by where they
+ * start, at a cost that does not grow with them: what is freed is named by space, start and words, and is refused
+ * where it is no live block of that loader. */
 
 /* Makes a pool with no loader, under the settings that the options name, for so many seats, 1 to 65536. `out`
  * gets the first seat, which has all others to spare. Returns IN_USE exactly where `out` has a seat already,

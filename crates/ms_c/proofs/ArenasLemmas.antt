@@ -1,7 +1,7 @@
 -- Arenas without names whose blocks come and go are arenas of the same accounts' owners, and the seat
 -- serves them still.
-use Rattle.std.proofs.Common.{◌≡◌, ◌≢◌, ◌<◌, ℕ, Bool, true, false, Option, Some, None, Result, Ok, Err, refl, sym, ap, ◌∙◌}
-use Rattle.std.proofs.Common.{subst, inl, inr, IfOk}
+use Rattle.std.proofs.Common.{◌≡◌, ◌≢◌, ◌<◌, ℕ, Bool, true, false, Option, Some, None, Result, Ok, Err, refl, sym, ap}
+use Rattle.std.proofs.Common.{◌∙◌, subst, inl, inr, IfOk}
 use Rattle.ms_base.specs.declared.kind.Space.{Space}
 use Rattle.ms_base.specs.declared.kind.Space.TheVariants.{NonClass, Class}
 use Rattle.ms_base.specs.declared.policy.Policy.{Policy}
@@ -20,7 +20,11 @@ use Rattle.ms_arena.specs.Alloc.{Allocates}
 use Rattle.ms_shared.specs.declared.lock_rule.SeatView.{SeatView}
 use Rattle.ms_shared.specs.SeatView.{ServesBy, opened_by}
 use Rattle.ms_c.specs.declared.member.arenas.Arenas.{Arenas}
-use Rattle.ms_c.specs.Arenas.{arena_in, with_arena, ServesArenas, PlacesOwn}
+use Rattle.ms_c.specs.Arenas.{arena_in, with_arena, ServesArenas, PlacesOwn, GivesBlock}
+use Rattle.ms_base.specs.declared.step.Reply.{Reply}
+use Rattle.ms_base.specs.declared.step.Reply.TheVariants.{Ok as Done, At, Value, Refused}
+use Rattle.ms_loaders.proofs.steps.OutcomeLemmas.{placed_chunks}
+use Rattle.ms_c.specs.Taking.{AnswersOwn, AnswersGiving}
 
 -- An arena keeps its owner and its space.
 abbrev Keeps : ArenaView → ArenaView → Type 0
@@ -116,3 +120,44 @@ pub placed_so : (space : Space) (old : Arenas) (is : ArenaView) (words : ℕ) (a
     → IfOk answer (λ found. PlacesOwn space words old found (with_arena space old is))
 placed_so space old is words (Ok found) places = record { is = is; places = places; new_is = refl }
 placed_so space old is words (Err refusal) places = tt
+
+-- What an arena without names placed or freed leaves its account as it was.
+placed_alike : (was is : ArenaView) (n : ℕ) (o : Option (ℕ × ArenaState)) (found : Option Block)
+    → placed was.books n ≡ o → PlacedAt was n o found is → account_of is ≡ account_of was
+placed_alike was is n (Some place) (Some block) at its =
+    ap account_of its.1
+    ∙ ap (λ chunks. record { owner = was.owner; space = was.space; chunks = chunks }) (placed_chunks was.books n place at)
+placed_alike was is n None None at its = ap account_of its
+placed_alike was is n (Some place) None at its = absurd its
+placed_alike was is n None (Some block) at its = absurd its
+
+serves_placed_own : (space : Space) (words : ℕ) (knows : SeatView) (old new : Arenas) (found : Option Block)
+    → PlacesOwn space words old found new → ServesArenas knows old → ServesArenas knows new
+serves_placed_own space words knows old new found places its =
+    subst (ServesArenas knows) (sym places.new_is) (serves_alike space knows old places.is
+    (placed_alike (arena_in space old) places.is (block_words words) (placed (arena_in space old).books (block_words words))
+    found refl places.places.1) its)
+
+serves_given : (space : Space) (block : Block) (knows : SeatView) (old new : Arenas) → GivesBlock space old block new
+    → ServesArenas knows old → ServesArenas knows new
+serves_given space block knows old new gives its =
+    subst (ServesArenas knows) (sym gives.new_is)
+    (serves_alike space knows old gives.is (ap account_of gives.frees.after) its)
+
+pub serves_own : (space : Space) (words : ℕ) (knows : SeatView) (old new : Arenas) (reply : Option Reply)
+    → AnswersOwn space words old reply new → ServesArenas knows old → ServesArenas knows new
+serves_own space words knows old new None same its = subst (ServesArenas knows) (sym same) its
+serves_own space words knows old new (Some (At start)) placed its =
+    serves_placed_own space words knows old new (Some placed.0) placed.2 its
+serves_own space words knows old new (Some (Refused refusal)) refused its =
+    subst (ServesArenas knows) (sym refused.1) its
+serves_own space words knows old new (Some Done) none its = absurd none
+serves_own space words knows old new (Some (Value value)) none its = absurd none
+
+pub serves_giving : (space : Space) (block : Block) (knows : SeatView) (old new : Arenas) (reply : Reply)
+    → AnswersGiving space block old reply new → ServesArenas knows old → ServesArenas knows new
+serves_giving space block knows old new Done gives its = serves_given space block knows old new gives its
+serves_giving space block knows old new (Refused refusal) refused its =
+    subst (ServesArenas knows) (sym refused.2) its
+serves_giving space block knows old new (At start) none its = absurd none
+serves_giving space block knows old new (Value value) none its = absurd none

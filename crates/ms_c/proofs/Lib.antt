@@ -3,6 +3,7 @@ pub mod ArenasLemmas
 pub mod AsBox
 pub mod AsSeat
 pub mod BitLemmas
+pub mod HostedLemmas
 pub mod RunLemmas
 pub mod SeatedLemmas
 pub mod ServedLemmas

@@ -1,6 +1,6 @@
 use Rattle.std.specs.Arc.{arc_value}
 use Rattle.ms_c.proofs.SeatedLemmas.{seated_still, serves_after_free}
-use Rattle.ms_c.proofs.TakingLemmas.{hosts_freed}
+use Rattle.ms_c.proofs.HostedLemmas.{hosts_freed}
 use Rattle.ms_c.proofs.member.Member.free.Goals as goal
 
 -- the seat serves the loader still

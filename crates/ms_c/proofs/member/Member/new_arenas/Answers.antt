@@ -5,7 +5,7 @@ use Rattle.ms_c.specs.declared.member.arenas.Arenas.{Arenas}
 use Rattle.ms_c.specs.Arenas.{ServesArenas, OpensArenas}
 use Rattle.ms_c.specs.Member.{MemberState}
 use Rattle.ms_c.proofs.SeatedLemmas.{has_it}
-use Rattle.ms_c.proofs.TakingLemmas.{some_there, none_there, seated_bare, hosts_new}
+use Rattle.ms_c.proofs.HostedLemmas.{some_there, none_there, seated_bare, hosts_new}
 use Rattle.ms_c.proofs.member.Member.new_arenas.Goals as goal
 
 -- there is a loader without names

@@ -6,7 +6,7 @@ use Rattle.ms_shared.specs.SeatView.{SeatState}
 use Rattle.ms_c.specs.declared.member.arenas.Arenas.{Arenas}
 use Rattle.ms_c.specs.Member.{MemberState, IsSeated, HostsArenas, ServesLoader}
 use Rattle.ms_c.proofs.SeatedLemmas.{has_it}
-use Rattle.ms_c.proofs.TakingLemmas.{some_there, none_there}
+use Rattle.ms_c.proofs.HostedLemmas.{some_there, none_there}
 use Rattle.ms_c.proofs.member.Member.new_loader.Goals as goal
 
 -- there is a loader without names

@@ -4,7 +4,7 @@ use Rattle.ms_c.specs.declared.member.arenas.Arenas.{Arenas}
 use Rattle.ms_c.specs.Member.{HostsArenas}
 use Rattle.ms_c.specs.Taking.{ServesAny}
 use Rattle.ms_c.proofs.SeatedLemmas.{has_it}
-use Rattle.ms_c.proofs.TakingLemmas.{hosted, alone_there, seated_bare}
+use Rattle.ms_c.proofs.HostedLemmas.{hosted, alone_there, seated_bare}
 use Rattle.ms_c.proofs.member.Member.unload_arenas.Goals as goal
 
 -- the seat that has the pool serves the arenas

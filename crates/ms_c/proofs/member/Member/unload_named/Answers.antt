@@ -5,7 +5,7 @@ use Rattle.ms_shared.specs.SeatView.{SeatState}
 use Rattle.ms_c.specs.declared.member.arenas.Arenas.{Arenas}
 use Rattle.ms_c.specs.Member.{IsSeated, ServesIt, HostsArenas}
 use Rattle.ms_c.proofs.SeatedLemmas.{has_it}
-use Rattle.ms_c.proofs.TakingLemmas.{no_arenas}
+use Rattle.ms_c.proofs.HostedLemmas.{no_arenas}
 use Rattle.ms_c.proofs.member.Member.unload_named.Goals as goal
 
 -- the seat that has the pool serves the loader
