@@ -1,4 +1,4 @@
-use Rattle.std.proofs.Common.{inl, inr, refl, sym, ap, subst, ◌∙◌, Option, Some, IfOk, Result}
+use Rattle.std.proofs.Common.{inl, inr, refl, sym, ap, subst, ◌∙◌, Some, IfOk, Result}
 use Rattle.std.specs.Arc.{arc_value}
 use Rattle.ms_base.specs.declared.refusal.Refusal.{Refusal}
 use Rattle.ms_c.specs.declared.member.arenas.Arenas.{Arenas}
