@@ -1,4 +1,4 @@
-//! The exports that allocate and tell which granules became committed.
+//! The exports that allocate and return which granules became committed.
 ghost use Rattle.std.specs.Prelude.{◌≡◌, ◌≢◌};
 ghost use Rattle.ms_base.specs.declared.kind.Space.TheVariants.{NonClass, Class};
 ghost use Rattle.ms_base.specs.declared.step.Step.TheVariants.{Alloc, Calloc};

@@ -1,4 +1,4 @@
-//! The exports that tell of a seat and its loader, and change nothing.
+//! The exports that return what a seat and its loader have, and change nothing.
 ghost use Rattle.std.specs.Prelude.{◌≡◌, ◌≢◌, ◌↔◌, ◌⊎◌, None, IfSome, length};
 ghost use Rattle.ms_c.specs.Taking.{used_of_them};
 ghost use Rattle.ms_c.specs.Calls.{TellsGranules, IsAlone, TellsIts, HasNone};

@@ -1,4 +1,4 @@
-//! The exports that tell of a system and change nothing.
+//! The exports that return what a system has, and change nothing.
 ghost use Rattle.std.specs.Prelude.{◌≡◌, ◌≢◌, ◌↔◌, ◌⊎◌, ◌++◌, false, None, IfSome, IfNone, length};
 ghost use Rattle.std.specs.Prelude.{map};
 ghost use Rattle.std.specs.List.{range_with_len};

@@ -1,6 +1,6 @@
 //! A member's loader comes, allocates, frees and goes.
 //!
-//! What needs the pool needs that the seat has it, and is else answered with none. A block that the
+//! What needs the pool needs that the seat has it, and returns none else. A block that the
 //! loader places in its own chunks needs no pool.
 ghost use Rattle.std.specs.Prelude.{◌≡◌, Option, IfSome, IfNone, IfOk, IfErr, OnErr};
 ghost use Rattle.ms_base.specs.declared.kind.Space.TheVariants.{NonClass, Class};
@@ -22,8 +22,8 @@ use std::alloc::Global;
 
 impl Member {
     /// Makes a loader with nothing of its own but two owner numbers. Refused with `LoaderExists`
-    /// where there is one, and with `IdsUsedUp`; answers none where the seat doesn't have the pool.
-    /// Takes no memory.
+    /// where there is one, with names or without, and with `IdsUsedUp`; returns none where the seat
+    /// doesn't have the pool. Takes no memory.
     pub fn new_loader(&mut self, alloc: Global, kind: Kind) -> Option<Reply>
         ensures { AnswersNew kind self.old result self.new }
     {
@@ -80,7 +80,7 @@ impl Member {
     }
 
     /// Allocates a block of so many words in a space, under a new name: over the pool where the seat
-    /// has it, else where the loader places it in its own chunks; answers none where that takes the
+    /// has it, else where the loader places it in its own chunks; returns none where that takes the
     /// pool. Refused with `NoLoader`, and as a loader refuses. Takes memory.
     pub fn allocate(&mut self, space: Space, block: u32, words: u64) -> Option<Reply>
         ensures { AnswersAlloc space block words self.old result self.new }
@@ -232,7 +232,7 @@ fn allocate_alone(
     }
 }
 
-/// Places a block where the loader has a place for it; answers none where it has none.
+/// Places a block where the loader has a place for it; returns none where it has none.
 fn place(loader: &mut Loader, space: Space, block: u32, words: u64) -> Option<Reply>
     ensures { AnswersAlone space block words loader.old result loader.new }
 {
@@ -240,7 +240,7 @@ fn place(loader: &mut Loader, space: Space, block: u32, words: u64) -> Option<Re
     tell_alone(loader.allocate(&mut source, space, block, words))
 }
 
-/// Tells what a loader answers without the pool: none where it asked for a chunk.
+/// Returns what a loader answers without the pool: none where it asked for a chunk.
 fn tell_alone(answer: Result<Block, Refusal>) -> Option<Reply>
     ensures { result ≡ alone_told answer }
 {
