@@ -74,7 +74,7 @@ def example_tree(bench, name):
     folder, release = os.path.join(copy, "examples", "c"), os.path.join(copy, "release")
     for place in (folder, release):
         os.makedirs(place)
-    for file in ("Makefile", "nizgrabul.h", "calls.c", "runtime.c", "threads.c"):
+    for file in ("Makefile", "nizgrabul.h", "nizgrabul.pc", "calls.c", "runtime.c", "threads.c"):
         shutil.copy(os.path.join(EXAMPLES, file), folder)
     with open(os.path.join(release, "libms_c.a.xz"), "wb") as file:
         file.write(printed(["xz", "-c", ARCHIVE]))
@@ -89,6 +89,23 @@ def is_made_by_its_makefile(bench):
     expect_calls_answered(os.path.join(folder, "calls"))
     printed([os.path.join(folder, "runtime")])
     expect_threads_served([os.path.join(folder, "threads")])
+
+
+def is_found_by_pkg_config(bench):
+    """Installed in a folder of its own, the library is found there by pkg-config, and a program is built by what that says."""
+    if not shutil.which("pkg-config"):
+        raise Skipped("pkg-config")
+    folder = example_tree(bench, "library_install")
+    others = {name: word for name, word in os.environ.items() if name not in OF_MAKE}
+    prefix = os.path.join(folder, "installed")
+    printed(["make", "-C", folder, "install", f"PREFIX={prefix}"], env=others)
+    found = {**others, "PKG_CONFIG_PATH": os.path.join(prefix, "lib", "pkgconfig")}
+    words = printed(["pkg-config", "--cflags", "--libs", "nizgrabul"], env=found).decode().split()
+    version = printed(["pkg-config", "--modversion", "nizgrabul"], env=found).decode().strip()
+    expect(f"#define NIZGRABUL_VERSION {version}\n" in header(), "the header has another version than", version)
+    program = os.path.join(folder, "installed_calls")
+    printed([*compiler(), "-o", program, os.path.join(folder, "calls.c"), *words])
+    expect_calls_answered(program)
 
 
 def makefile_says_what_is_missing(bench):
@@ -212,22 +229,34 @@ def words(comment):
     return [word for word in re.sub(r"`(nizgrabul_\w+)`", r"\1", comment).split() if word not in MARKS]
 
 
-def runs_from_rust(bench):
+def runs_from_rust(bench, program):
     """A safe wrapper in plain Rust, built with cargo and no dependency."""
     if not shutil.which("cargo") or not shutil.which("rustc"):
         raise Skipped("cargo and rustc")
     folder = os.path.join(ROOT, "examples", "rust")
     environment = {**os.environ, "NIZGRABUL": OUT, "TOOLCHAIN_C": os.path.join(toolchain(), "c")}
     room = bench.built("library_rust")
-    found = printed(["cargo", "run", "--quiet", "--offline", "--target-dir", room], cwd=folder, env=environment)
-    with open(os.path.join(folder, "classes.out"), "rb") as file:
+    run = ["cargo", "run", "--quiet", "--offline", "--target-dir", room, "--bin", program]
+    found = printed(run, cwd=folder, env=environment)
+    with open(os.path.join(folder, f"{program}.out"), "rb") as file:
         wanted = file.read()
     expect(found == wanted, first_difference(found, wanted))
+
+
+def refuses_misuse_in_rust(bench):
+    """The wrapper's examples of what its lifetimes and its ownership forbid do not compile."""
+    if not shutil.which("cargo") or not shutil.which("rustdoc"):
+        raise Skipped("cargo and rustdoc")
+    environment = {**os.environ, "NIZGRABUL": OUT, "TOOLCHAIN_C": os.path.join(toolchain(), "c")}
+    run = ["cargo", "test", "--offline", "--doc", "--target-dir", bench.built("library_rust")]
+    found = printed(run, cwd=os.path.join(ROOT, "examples", "rust"), env=environment)
+    expect(b"test result: ok. 2 passed; 0 failed" in found, found)
 
 
 def tests():
     yield Test("library: each call answers from C", answers_each_call)
     yield Test("library: the example's Makefile builds it", is_made_by_its_makefile)
+    yield Test("library: pkg-config finds it installed", is_found_by_pkg_config)
     yield Test("library: the Makefile says what is missing", makefile_says_what_is_missing)
     yield Test("library: real memory follows the account", commits_real_memory)
     yield Test("library: each call of a seat answers", answers_each_seat)
@@ -239,4 +268,6 @@ def tests():
     yield Test("library: the header is C++ too", fits_a_cpp_program)
     yield Test("library: exports have the prefix", exports_are_the_headers)
     yield Test("library: the header has the docs' words", comments_are_the_crates)
-    yield Test("library: a safe wrapper in Rust", runs_from_rust)
+    yield Test("library: a safe wrapper in Rust", runs_from_rust, ("classes",))
+    yield Test("library: safe threads in Rust over one pool", runs_from_rust, ("threads",))
+    yield Test("library: misuse in Rust does not compile", refuses_misuse_in_rust)

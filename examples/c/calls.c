@@ -32,6 +32,15 @@ static void tell_counts(nizgrabul_handle *handle, nizgrabul_limit_counts *c) {
            c->class_nodes);
 }
 
+/* Tells each run of granules that went. */
+static void tell_gone(nizgrabul_handle *handle, const bool *was, size_t places) {
+    nizgrabul_run run = {0};
+    do {
+        run = nizgrabul_next_uncommitted(handle, was, places, run.first + run.granules);
+        printf("gone: granules %" PRIu64 " from %" PRIu64 ", %" PRIu64 " came\n", run.granules, run.first, run.came);
+    } while (run.granules);
+}
+
 int main(void) {
     nizgrabul_handle handle = {0};
     nizgrabul_options options = {.nodes = 1, .class_nodes = 1, .max_granules = 2, .policy = NIZGRABUL_BALANCED};
@@ -41,6 +50,7 @@ int main(void) {
     nizgrabul_sums_of_loader loader = {0};
     nizgrabul_run run = {.first = 7, .granules = 8, .came = 9};
     bool bits[3];
+    static bool was[8200];
     printf("the header's version: %d\n", nizgrabul_version() == NIZGRABUL_VERSION);
     tell("100 words with no system", nizgrabul_alloc(&handle, 1, 1, 100));
     printf("65 nodes: %" PRIu32 "\n", nizgrabul_new(&wrong, &handle));
@@ -82,8 +92,11 @@ int main(void) {
     printf("sums of loader 2: %" PRIu32 "\n", nizgrabul_loader_totals(&handle, 2, &loader));
     tell_counts(&handle, &counts);
     tell("purge", nizgrabul_purge(&handle));
+    nizgrabul_granules(&handle, 0, was, 8200);
+    tell_gone(&handle, was, 8200);
     tell("unload", nizgrabul_unload(&handle, 1));
     tell("unload again", nizgrabul_unload(&handle, 1));
+    tell_gone(&handle, was, 8200);
     tell("holder of word 4100", nizgrabul_holder(&handle, 4100));
     tell("purge", nizgrabul_purge(&handle));
     tell_counts(&handle, &counts);

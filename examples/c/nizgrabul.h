@@ -18,7 +18,9 @@
  *         ..                              block 7 of loader 1 has its 4000 words from base + 8 * block.value on
  *     }
  *     nizgrabul_unload(&handle, 1);
- *     ..                                  give back the granules that nizgrabul_granules tells no more
+ *     run.first = run.granules = 0;       was[k] is whether granule k was committed:
+ *     while (run = nizgrabul_next_uncommitted(&handle, was, places, run.first + run.granules), run.granules)
+ *         ..                              give back run.granules granules from granule run.first on
  *     nizgrabul_delete(&handle);
  *
  * Units. A word is 8 bytes. Words are numbered from 0, and so are granules and nodes, each from its first
@@ -28,15 +30,43 @@
  * addresses, or just nodes times 8 MB where class_nodes is 0.
  *
  * What is committed. Granules become committed by allocations alone: nizgrabul_alloc_with_run and
- * nizgrabul_calloc_with_run tell which. They cease to be by unload, purge and delete alone: a program
- * compares what nizgrabul_granules tells then with what was committed before. What words hold is the
- * program's own matter: those of a freed block may go to the loader's next block as they are.
+ * nizgrabul_calloc_with_run return which. They cease to be by unload, purge and delete alone: a program has
+ * a flag for each granule that is committed, and nizgrabul_next_uncommitted returns run by run which of them
+ * are no more. What words hold is the program's own matter: those of a freed block may go to the loader's
+ * next block as they are.
+ *
+ * Calls of a system, and of a seat of a shared pool (each begins with nizgrabul_):
+ *
+ *     new                               share, seat_split       makes a system; a pool with its first seat; one more
+ *     delete                            seat_end                ends it
+ *                                       seat_hold, seat_wait    takes the pool for the seat
+ *                                       seat_let_go             gives the pool back
+ *     new_loader                        seat_new_loader         makes a class loader
+ *     unload                            seat_unload             ends it with all its blocks
+ *     alloc, calloc                     seat_alloc, seat_calloc allocates a block by a number of the program's own
+ *     alloc_with_run, calloc_with_run                           and returns the granules that became committed
+ *     free                              seat_free               frees a block by its number
+ *                                       seat_new_arenas         makes a class loader without numbers for its blocks
+ *                                       seat_take, seat_give    allocates and frees a block of it by start and words
+ *     free_block                                                frees a block by its start and words
+ *     purge                             seat_purge              gives unused nodes back
+ *     next_uncommitted                  seat_next_uncommitted   returns the granules to give back, run by run
+ *     is_committed, granules            seat_granules           returns which granules are committed
+ *     counts, totals                                            returns sums over the system
+ *     loader_totals, used_by            seat_totals, seat_used  returns sums over a loader
+ *     holder                                                    returns whose a word is
+ *     version                                                   returns the library's version
  *
  * To build over the released library, with the toolchain's command rt on the PATH, at the top of the
  * repository:
  *
  *     make -C examples/c libms_c.a
  *     cc -Iexamples/c program.c examples/c/libms_c.a "$(dirname "$(rt doc)")/c/liblibc_c.a"
+ *
+ * Or, once `make -C examples/c install PREFIX=/folder` has put all of it into a folder, by pkg-config, and so by
+ * CMake's pkg_check_modules, with PKG_CONFIG_PATH=/folder/lib/pkgconfig:
+ *
+ *     cc program.c $(pkg-config --cflags --libs nizgrabul)
  *
  * What a program owes, since nothing checks it:
  * - A handle is filled with zeros before its first use. After that only these calls read or write it; it
@@ -48,12 +78,12 @@
  *   the call; `options` and `out` do not overlap the handle.
  * - `malloc`, `realloc` and `free` are of one allocator, and align to 16. No call comes from a signal
  *   handler, nor from the forked child of a process with threads.
- * Any numbers are allowed, and a handle with no system is told as NIZGRABUL_NO_SYSTEM. */
+ * Any numbers are allowed, and a handle with no system returns the status NIZGRABUL_NO_SYSTEM. */
 #ifndef NIZGRABUL_H
 #define NIZGRABUL_H
 
-/* It rises where a call or a struct changes; nizgrabul_version tells that of the library. */
-#define NIZGRABUL_VERSION 5
+/* It rises where a call or a struct changes; nizgrabul_version returns that of the library. */
+#define NIZGRABUL_VERSION 6
 
 #include <stdbool.h>
 #include <stddef.h>
@@ -63,7 +93,7 @@
 extern "C" {
 #endif
 
-/* What a call came to: the status that it answers, or that of its answer. All but DONE change nothing, but
+/* What a call came to: the status that it returns, or that of the answer. All but DONE change nothing, but
  * that NIZGRABUL_OUT_OF_MEMORY for a new loader may use two owner numbers up. The comments below name a
  * status without its prefix. */
 enum nizgrabul_status {
@@ -74,14 +104,14 @@ enum nizgrabul_status {
     NIZGRABUL_COMMIT_LIMIT = 4,   /* value granules of limit are committed, and need more are needed */
     NIZGRABUL_RESERVE_LIMIT = 5,  /* value nodes of limit are reserved, and none has room */
     NIZGRABUL_NOT_LIVE = 6,       /* the loader has no live block there with so many words */
-    NIZGRABUL_OUT_OF_RANGE = 7,   /* no call here answers it */
+    NIZGRABUL_OUT_OF_RANGE = 7,   /* no call here returns it */
     NIZGRABUL_NO_LOADER = 8,      /* no loader has the number */
     NIZGRABUL_LOADER_EXISTS = 9,  /* a loader has the number already */
     NIZGRABUL_NO_BLOCK = 10,      /* the loader has no live block of the number */
     NIZGRABUL_BLOCK_EXISTS = 11,  /* the loader has a live block of the number already */
     NIZGRABUL_IDS_USED_UP = 12,   /* of 4294967295 owner numbers, two for each loader made, fewer are left */
-    NIZGRABUL_UNSETTLED = 13,     /* no call here answers it */
-    NIZGRABUL_NO_ROOM = 14,       /* no call here answers it */
+    NIZGRABUL_UNSETTLED = 13,     /* no call here returns it */
+    NIZGRABUL_NO_ROOM = 14,       /* no call here returns it */
     NIZGRABUL_NO_SYSTEM = 20,     /* the handle has no system */
     NIZGRABUL_IN_USE = 21,        /* the handle has a system already */
     NIZGRABUL_BAD_SETTINGS = 22,  /* an option is out of its range */
@@ -137,11 +167,11 @@ typedef struct nizgrabul_answer {
     uint64_t need;
 } nizgrabul_answer;
 
-/* A run of granules; none where nothing became committed. */
+/* A run of granules; of none where there is none to commit or to give back. */
 typedef struct nizgrabul_run {
     uint64_t first;    /* the number of the first one */
     uint64_t granules; /* how many they are */
-    uint64_t came;     /* how many of them became committed; fewer than all only under the policy none */
+    uint64_t came;     /* how many of them became committed; fewer than all under the policy none; 0 of those that went */
 } nizgrabul_run;
 
 /* The sums over one space, in words where nothing else is said; used = live + free_blocks + waste. */
@@ -200,17 +230,17 @@ typedef struct nizgrabul_sums_of_loader {
  * memory. */
 uint32_t nizgrabul_version(void);
 
-/* Makes a system with no loader in an empty handle, under the settings that the options name. Answers IN_USE
- * exactly where the handle has a system already, in an empty one BAD_SETTINGS exactly where an option is out
- * of its range, and else DONE or OUT_OF_MEMORY; all but DONE leave the handle as it was. Takes memory. */
+/* Makes a system with no loader in an empty handle, under the settings that the options name. Returns IN_USE
+ * exactly where the handle has a system already, in an empty one BAD_SETTINGS exactly where an option is out of
+ * its range, and else DONE or OUT_OF_MEMORY; all but DONE leave the handle as it was. Takes memory. */
 uint32_t nizgrabul_new(const nizgrabul_options *options, nizgrabul_handle *out);
 
 /* Ends the handle's system, if there is one, and gives all its memory back; the handle is empty then, and
  * may be used anew. Takes no memory. */
 void nizgrabul_delete(nizgrabul_handle *handle);
 
-/* Makes a loader with nothing of its own, under a number that no loader has. The kind is 0 standard, 1 boot,
- * 2 reflection or 3 hidden; BAD_KIND answers any other. Refused with LOADER_EXISTS, IDS_USED_UP and
+/* Makes a loader with nothing of its own, under a number that no loader has. The kind is 0 standard, 1 boot, 2
+ * reflection or 3 hidden; any other is refused with BAD_KIND. Refused with LOADER_EXISTS, IDS_USED_UP and
  * OUT_OF_MEMORY. Takes memory. */
 nizgrabul_answer nizgrabul_new_loader(nizgrabul_handle *handle, uint16_t loader, uint32_t kind);
 
@@ -230,14 +260,14 @@ nizgrabul_answer nizgrabul_alloc(nizgrabul_handle *handle, uint16_t loader, uint
  * their numbers. Takes memory. */
 nizgrabul_answer nizgrabul_calloc(nizgrabul_handle *handle, uint16_t loader, uint32_t block, uint64_t words);
 
-/* Allocates a block as nizgrabul_alloc does, and tells in `out` the run of granules that it committed: each
- * that became committed lies in it, and each of it is committed now; none has gone. Under the policies
- * balanced and aggressive all of the run became committed; under none some of it may have been before. All
- * but DONE leave `out` as it was. Takes memory. */
+/* Allocates a block as nizgrabul_alloc does, and writes to `out` the run of granules that it committed: each
+ * that became committed lies in it, and each of it is committed now; none has gone. Under the policies balanced
+ * and aggressive all of the run became committed; under none some of it may have been before. All but DONE
+ * leave `out` as it was. Takes memory. */
 nizgrabul_answer nizgrabul_alloc_with_run(nizgrabul_handle *handle, uint16_t loader, uint32_t block,
                                           uint64_t words, nizgrabul_run *out);
 
-/* Allocates a block in the class space, and returns the run of granules that it committed, as
+/* Allocates a block in the class space, and writes the run of granules that it committed to `out`, as
  * nizgrabul_alloc_with_run does. Takes memory. */
 nizgrabul_answer nizgrabul_calloc_with_run(nizgrabul_handle *handle, uint16_t loader, uint32_t block,
                                            uint64_t words, nizgrabul_run *out);
@@ -258,34 +288,41 @@ nizgrabul_answer nizgrabul_free_block(nizgrabul_handle *handle, uint16_t loader,
  * memory. */
 nizgrabul_answer nizgrabul_purge(nizgrabul_handle *handle);
 
-/* Returns how many granules are committed in both spaces and how many may be, and the same of nodes outside
- * the class space. Answers DONE, or NO_SYSTEM, which leaves `out` as it was. Takes no memory, and visits no
- * loader and no chunk. */
+/* Writes to `out` how many granules are committed in both spaces and how many may be, and the same of nodes
+ * outside the class space. Returns DONE, or NO_SYSTEM, which leaves `out` as it was. Takes no memory, and
+ * visits no loader and no chunk. */
 uint32_t nizgrabul_counts(nizgrabul_handle *handle, nizgrabul_limit_counts *out);
 
 /* Returns the words in use of one loader, in both spaces, and 0 where none has the number. Takes no
  * memory. */
 uint64_t nizgrabul_used_by(nizgrabul_handle *handle, uint16_t loader);
 
-/* Tells whose a word is: `value` is the number of the loader in whose chunk the word lies, in use or not.
- * Answers NO_LOADER where it lies in nobody's. Takes no memory, and answers in the depth of a tree and one
- * look-up. */
+/* Returns whose a word is: `value` is the number of the loader in whose chunk the word lies, in use or not.
+ * Returns NO_LOADER where it lies in nobody's. Takes no memory, and visits the depth of a tree and one entry of
+ * a table. */
 nizgrabul_answer nizgrabul_holder(nizgrabul_handle *handle, uint64_t word);
 
 /* Returns whether a granule is committed: the words from its number times a granule's words on, which are
  * 8192, or 2048 under the policy aggressive. With no system none is. Takes no memory. */
 bool nizgrabul_is_committed(nizgrabul_handle *handle, uint64_t granule);
 
-/* Returns of each granule from the first on, as many as `out` has places, whether it is committed; with no
+/* Writes to `out` of each granule from `first` on, as many as it has places, whether it is committed; with no
  * system none is. So a program compares before and after in one call. Takes no memory. */
 void nizgrabul_granules(nizgrabul_handle *handle, uint32_t first, bool *out, size_t places);
 
-/* Returns all sums over the system. Answers DONE, NO_SYSTEM or OUT_OF_MEMORY; all but DONE leave `out` as it
- * was. Takes memory while it runs; visits each node, loader and chunk, and no block. */
+/* Returns the first run of granules, from the granule `from` on, that were committed and are no more: `was` has
+ * a flag for each granule from 0 on, whether it was committed, and granules past its places were not. `came` is
+ * 0, and a run of no granules says that there is none. Asked from 0 on after an unload or a purge, and then
+ * each time from the end of the run before, it returns exactly the granules that a program gives back. With no
+ * system none is committed. Takes no memory, and visits no granule past the run's end. */
+nizgrabul_run nizgrabul_next_uncommitted(nizgrabul_handle *handle, const bool *was, size_t places, uint64_t from);
+
+/* Writes all sums over the system to `out`. Returns DONE, NO_SYSTEM or OUT_OF_MEMORY; all but DONE leave `out`
+ * as it was. Takes memory while it runs; visits each node, loader and chunk, and no block. */
 uint32_t nizgrabul_totals(nizgrabul_handle *handle, nizgrabul_sums_of_all *out);
 
-/* Returns the sums of one loader. Answers DONE, NO_SYSTEM, or NO_LOADER where none has the number; all but
- * DONE leave `out` as it was. Takes no memory; visits each chunk of that loader, no block, and no other
+/* Writes the sums of one loader to `out`. Returns DONE, NO_SYSTEM, or NO_LOADER where none has the number; all
+ * but DONE leave `out` as it was. Takes no memory; visits each chunk of that loader, no block, and no other
  * loader. */
 uint32_t nizgrabul_loader_totals(nizgrabul_handle *handle, uint16_t loader, nizgrabul_sums_of_loader *out);
 
@@ -313,22 +350,26 @@ uint32_t nizgrabul_loader_totals(nizgrabul_handle *handle, uint16_t loader, nizg
  *   or by a sequentially consistent atomic. `seat` and `out` are two.
  * - Memory is committed, and given back, while the seat has the pool: once it let the pool go, another seat may
  *   get the same granules, and would have them committed before they are given back.
- * - A thread has the pool by one seat at a time, and not for long: meanwhile every other seat is answered BUSY.
+ * - A thread has the pool by one seat at a time, and not for long: meanwhile BUSY is returned to every other seat.
  *   To ask for it by a second seat is to ask forever.
  * No call of a seat waits for another thread. nizgrabul_seat_wait, at the end of this header, asks until the seat
  * has the pool; NIZGRABUL_WAIT(tries), defined before this header, puts a program's own way to wait in its place.
  * A pool ends with its last seat, and has at most 65536 of them; a seat whose loader was unloaded serves the next
- * one. There is no move of a loader between two seats: the seat moves. */
+ * one. There is no move of a loader between two seats: the seat moves.
+ *
+ * A loader made by nizgrabul_seat_new_arenas has no numbers for its blocks. It knows its live blocks by where they
+ * start, at a cost that does not grow with them: what is freed is named by space, start and words, and is refused
+ * where it is no live block of that loader. */
 
-/* Makes a pool with no loader, under the settings that the options name, for so many seats, 1 to 65536.
- * `out` gets the first seat, which has all others to spare. Answers IN_USE exactly where `out` has a seat
- * already, where it has none BAD_SETTINGS exactly where an option or the number of seats is out of its
- * range, and else DONE or OUT_OF_MEMORY; all but DONE leave `out` as it was. Takes memory. */
+/* Makes a pool with no loader, under the settings that the options name, for so many seats, 1 to 65536. `out`
+ * gets the first seat, which has all others to spare. Returns IN_USE exactly where `out` has a seat already,
+ * where it has none BAD_SETTINGS exactly where an option or the number of seats is out of its range, and else
+ * DONE or OUT_OF_MEMORY; all but DONE leave `out` as it was. Takes memory. */
 uint32_t nizgrabul_share(const nizgrabul_options *options, uint32_t seats, nizgrabul_seat *out);
 
-/* Gives `out` one of the seats that `seat` has to spare, for a loader of its own and for any thread. Answers
- * NO_SEAT exactly where `seat` has none, IN_USE where `out` has one already, NO_SPARE where none is to
- * spare, and else DONE or OUT_OF_MEMORY; all but DONE change nothing. Takes memory. */
+/* Gives `out` one of the seats that `seat` has to spare, for a loader of its own and for any thread. Returns
+ * NO_SEAT exactly where `seat` has none, IN_USE where `out` has one already, NO_SPARE where none is to spare,
+ * and else DONE or OUT_OF_MEMORY; all but DONE change nothing. Takes memory. */
 uint32_t nizgrabul_seat_split(nizgrabul_seat *seat, nizgrabul_seat *out);
 
 /* Ends a seat, if there is one, and gives the pool back where the seat has it; the last seat of a pool ends
@@ -336,31 +377,31 @@ uint32_t nizgrabul_seat_split(nizgrabul_seat *seat, nizgrabul_seat *out);
  * is empty then, and may be used anew. Takes no memory. */
 void nizgrabul_seat_end(nizgrabul_seat *seat);
 
-/* Takes the pool for a seat, by one try, and keeps it until nizgrabul_seat_let_go. Answers BUSY where
- * another seat has the pool, which changes nothing; DONE where the seat has it then, also where it had; and
- * NO_SEAT. Takes no memory. */
+/* Takes the pool for a seat, by one try, and keeps it until nizgrabul_seat_let_go. Returns BUSY where another
+ * seat has the pool, which changes nothing; DONE where the seat has it then, also where it had; and NO_SEAT.
+ * Takes no memory. */
 uint32_t nizgrabul_seat_hold(nizgrabul_seat *seat);
 
-/* Gives the pool back that a seat has. Answers NOT_HELD where it doesn't have it, and NO_SEAT, which change
+/* Gives the pool back that a seat has. Returns NOT_HELD where it doesn't have it, and NO_SEAT, which change
  * nothing, and else DONE. Takes no memory. */
 uint32_t nizgrabul_seat_let_go(nizgrabul_seat *seat);
 
-/* Makes the seat's loader, with nothing of its own, over the pool that the seat has. The kind is 0 standard,
- * 1 boot, 2 reflection or 3 hidden; BAD_KIND answers any other. Refused with NO_SEAT, LOADER_EXISTS,
- * NOT_HELD and IDS_USED_UP. Takes no memory. */
+/* Makes the seat's loader, with nothing of its own and with numbers for its blocks, over the pool that the seat
+ * has. The kind is 0 standard, 1 boot, 2 reflection or 3 hidden; any other is refused with BAD_KIND. Refused
+ * with NO_SEAT, LOADER_EXISTS, NOT_HELD and IDS_USED_UP. Takes no memory. */
 nizgrabul_answer nizgrabul_seat_new_loader(nizgrabul_seat *seat, uint32_t kind);
 
-/* Unloads the seat's loader, over the pool that the seat has: all its blocks and chunks go with it, and the
- * seat may make another. Under the policies balanced and aggressive just the granules stay committed that a
- * chunk of another loader still needs; under none all stay. Refused with NO_SEAT, NO_LOADER and NOT_HELD.
- * Takes no memory. */
+/* Unloads the seat's loader, with numbers for its blocks or without, over the pool that the seat has: all its
+ * blocks and chunks go with it, and the seat may make another. Under the policies balanced and aggressive just
+ * the granules stay committed that a chunk of another loader still needs; under none all stay. Refused with
+ * NO_SEAT, NO_LOADER and NOT_HELD. Takes no memory. */
 nizgrabul_answer nizgrabul_seat_unload(nizgrabul_seat *seat);
 
 /* Allocates a block of so many words, 1 to 524288, outside the class space, under a number that the seat's
  * loader has no block of; `value` is the word where it starts. One word makes a block of two. Where the seat
  * has the pool, granules may become committed. Where it doesn't, no lock is tried: the block comes of the
- * committed words that the loader has, and NOT_HELD answers where these don't serve. Refused, in this order,
- * with NO_SEAT, NO_LOADER, BLOCK_EXISTS, ZERO_WORDS, TOO_LARGE, and with NOT_HELD, RESERVE_LIMIT,
+ * committed words that the loader has, and the call returns NOT_HELD where these don't serve. Refused, in this
+ * order, with NO_SEAT, NO_LOADER, BLOCK_EXISTS, ZERO_WORDS, TOO_LARGE, and with NOT_HELD, RESERVE_LIMIT,
  * COMMIT_LIMIT or OUT_OF_MEMORY. Takes memory. */
 nizgrabul_answer nizgrabul_seat_alloc(nizgrabul_seat *seat, uint32_t block, uint64_t words);
 
@@ -373,23 +414,49 @@ nizgrabul_answer nizgrabul_seat_calloc(nizgrabul_seat *seat, uint32_t block, uin
  * loader has no live block of the number. Takes no memory. */
 nizgrabul_answer nizgrabul_seat_free(nizgrabul_seat *seat, uint32_t block);
 
+/* Makes the seat's loader, over the pool that the seat has, without numbers for its blocks: a block is known by
+ * its space, its start and its words. The kind is one of nizgrabul_seat_new_loader's; any other is refused with
+ * BAD_KIND. Refused with NO_SEAT, LOADER_EXISTS, NOT_HELD and IDS_USED_UP. Takes no memory. */
+nizgrabul_answer nizgrabul_seat_new_arenas(nizgrabul_seat *seat, uint32_t kind);
+
+/* Allocates a block of so many words, 1 to 524288, of the seat's loader without numbers; `value` is the word
+ * where it starts, in the class space or outside it. One word makes a block of two. Where the seat has the
+ * pool, granules may become committed. Where it doesn't, no lock is tried: the block comes of the committed
+ * words that the loader has, and the call returns NOT_HELD where these don't serve. Refused, in this order,
+ * with NO_SEAT, NO_LOADER, ZERO_WORDS, TOO_LARGE, and with NOT_HELD, RESERVE_LIMIT, COMMIT_LIMIT or
+ * OUT_OF_MEMORY. Takes memory. */
+nizgrabul_answer nizgrabul_seat_take(nizgrabul_seat *seat, bool class_space, uint64_t words);
+
+/* Frees the live block of the seat's loader without numbers that starts there and has so many words, at least
+ * two: its words become a free block of the loader. No granule changes, and the pool isn't needed. Refused with
+ * NO_SEAT, NO_LOADER, and with NOT_LIVE exactly where the loader has no such live block in that space, and then
+ * nothing changes. Takes no memory. */
+nizgrabul_answer nizgrabul_seat_give(nizgrabul_seat *seat, bool class_space, uint64_t start, uint64_t words);
+
 /* Gives the nodes of the pool that the seat has back in which no chunk is held; `value` is how many they
  * were. Those of the class space stay. No granule of a node that went is committed; only under the policy
  * none one can have been. Refused with NO_SEAT and NOT_HELD. Takes no memory. */
 nizgrabul_answer nizgrabul_seat_purge(nizgrabul_seat *seat);
 
-/* Returns the words in use of the seat's loader, in both spaces, and 0 where there is none. Takes no
- * memory. */
+/* Returns the words in use of the seat's loader, with numbers for its blocks or without, in both spaces, and 0
+ * where there is none. Takes no memory. */
 uint64_t nizgrabul_seat_used(nizgrabul_seat *seat);
 
-/* Returns the sums of the seat's loader. Answers DONE, NO_SEAT, or NO_LOADER where there is none; all but
- * DONE leave `out` as it was. Takes no memory; visits each chunk of the loader, and no block. */
+/* Writes the sums of the seat's loader to `out`. Returns DONE, NO_SEAT, or NO_LOADER where there is none with
+ * numbers; all but DONE leave `out` as it was. Takes no memory; visits each chunk of the loader, and no block.
+ * */
 uint32_t nizgrabul_seat_totals(nizgrabul_seat *seat, nizgrabul_sums_of_loader *out);
 
-/* Returns of each granule from the first on, as many as `out` has places, whether it is committed in the
- * pool that the seat has. Answers DONE; NOT_HELD exactly where the seat doesn't have the pool, and NO_SEAT,
+/* Writes to `out` of each granule from `first` on, as many as it has places, whether it is committed in the
+ * pool that the seat has. Returns DONE; NOT_HELD exactly where the seat doesn't have the pool, and NO_SEAT,
  * which leave `out` as it was. Takes no memory. */
 uint32_t nizgrabul_seat_granules(nizgrabul_seat *seat, uint32_t first, bool *out, size_t places);
+
+/* Gives `out` the first run of granules, from the granule `from` on, that were committed and are no more in the
+ * pool that the seat has, as nizgrabul_next_uncommitted does of a system. Returns DONE; NOT_HELD exactly where
+ * the seat doesn't have the pool, and NO_SEAT, which leave `out` as it was. Takes no memory. */
+uint32_t nizgrabul_seat_next_uncommitted(nizgrabul_seat *seat, const bool *was, size_t places, uint64_t from,
+                                         nizgrabul_run *out);
 
 #ifdef __cplusplus
 }

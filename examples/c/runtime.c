@@ -20,7 +20,7 @@ enum { WORDS = 65 * 1048576, MOST = WORDS / 2048, LOADERS = 4, BLOCKS = 12 };
 
 static nizgrabul_handle handle;
 static volatile uint64_t *base;
-static bool mapped[MOST], wanted[MOST];
+static bool mapped[MOST];
 static uint64_t granule_words, all_granules; /* under the policy that runs */
 static sigjmp_buf back;
 
@@ -47,15 +47,14 @@ static void commit(nizgrabul_run run) {
     if (came != run.came) ends("another number of granules came");
 }
 
-/* Gives back the granules that are committed no more; none comes without a run. */
+/* Gives back the granules that are committed no more, run by run. */
 static void give_back(void) {
-    nizgrabul_granules(&handle, 0, wanted, all_granules);
-    for (uint64_t granule = 0; granule < all_granules; granule++) {
-        if (wanted[granule] == mapped[granule]) continue;
-        if (wanted[granule]) ends("a granule came that no run told");
-        if (madvise((void *)(base + granule * granule_words), granule_words * 8, MADV_DONTNEED)) ends("madvise");
-        give_access(granule, 1, PROT_NONE);
-        mapped[granule] = false;
+    nizgrabul_run run = {0};
+    while (run = nizgrabul_next_uncommitted(&handle, mapped, all_granules, run.first + run.granules), run.granules) {
+        void *at = (void *)(base + run.first * granule_words);
+        if (madvise(at, run.granules * granule_words * 8, MADV_DONTNEED)) ends("madvise");
+        give_access(run.first, run.granules, PROT_NONE);
+        memset(mapped + run.first, false, run.granules);
     }
 }
 

@@ -11,6 +11,7 @@
 #include <stdatomic.h>
 #include <stdio.h>
 #include <stdlib.h>
+#include <string.h>
 #include <sys/mman.h>
 
 /* The program's own way to wait for the pool, which counts. */
@@ -70,17 +71,29 @@ static void let_go(struct loader *loader) {
     if (nizgrabul_seat_let_go(&loader->seat) != NIZGRABUL_DONE) ends("the pool was lost");
 }
 
-/* Commits and gives back what the library says of so many granules. The seat has the pool. */
-static void follow(struct loader *loader, uint32_t first, size_t count) {
-    bool now[GRANULES];
+/* Commits which of so many granules the library says. The seat has the pool. */
+static void commit(struct loader *loader, uint32_t first, size_t count) {
+    bool now[OF_ROOT];
     if (nizgrabul_seat_granules(&loader->seat, first, now, count) != NIZGRABUL_DONE) ends("no granules");
     for (size_t k = 0; k < count; k++) {
-        void *at = base + (first + k) * GRANULE;
         if (now[k] == mapped[first + k]) continue;
-        if (!now[k] && madvise(at, GRANULE * 8, MADV_DONTNEED)) ends("madvise");
-        if (mprotect(at, GRANULE * 8, now[k] ? PROT_READ | PROT_WRITE : PROT_NONE)) ends("mprotect");
-        mapped[first + k] = now[k];
+        if (!now[k]) ends("a granule went without an unload");
+        if (mprotect(base + (first + k) * GRANULE, GRANULE * 8, PROT_READ | PROT_WRITE)) ends("mprotect");
+        mapped[first + k] = true;
     }
+}
+
+/* Gives back the granules that are committed no more, run by run. The seat has the pool. */
+static void give_back(struct loader *loader) {
+    nizgrabul_run run = {0};
+    do {
+        uint64_t from = run.first + run.granules;
+        if (nizgrabul_seat_next_uncommitted(&loader->seat, mapped, GRANULES, from, &run) != NIZGRABUL_DONE) ends("no run");
+        void *at = base + run.first * GRANULE;
+        size_t bytes = run.granules * GRANULE * 8;
+        if (bytes && (madvise(at, bytes, MADV_DONTNEED) || mprotect(at, bytes, PROT_NONE))) ends("mprotect");
+        memset(mapped + run.first, false, run.granules);
+    } while (run.granules);
 }
 
 static uint64_t word_of(const struct loader *loader, int block, uint64_t word) {
@@ -107,7 +120,7 @@ static void go(struct loader *loader) {
     }
     hold(loader);
     if (nizgrabul_seat_unload(&loader->seat).status != NIZGRABUL_DONE) ends("not unloaded");
-    follow(loader, 0, GRANULES);
+    give_back(loader);
     let_go(loader);
     loader->lives = false;
 }
@@ -124,7 +137,7 @@ static void allocate(struct loader *loader, int block, uint64_t words) {
         answer = try_block(loader, block, words);
         if (answer.status == NIZGRABUL_DONE) {
             uint32_t first = answer.value / GRANULE;
-            follow(loader, first, first + OF_ROOT < GRANULES ? OF_ROOT : GRANULES - first);
+            commit(loader, first, first + OF_ROOT < GRANULES ? OF_ROOT : GRANULES - first);
         }
         let_go(loader);
     }

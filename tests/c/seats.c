@@ -41,11 +41,52 @@ void __wrap_free(void *block) {
 } while (0)
 #define IS(holds) do { if (!(holds) && !line) line = __LINE__; } while (0)
 
+/* Blocks that are known by their starts. */
+static void run_without_numbers(void) {
+    nizgrabul_options options = {.nodes = 1, .class_nodes = 1, .max_granules = 2, .policy = NIZGRABUL_BALANCED};
+    nizgrabul_seat own = {0}, *a = &own;
+    nizgrabul_answer block;
+    TAKES(nizgrabul_share(&options, 1, a), DONE);
+    ANSWERS(nizgrabul_seat_hold(a), DONE);
+    ANSWERS(nizgrabul_seat_new_arenas(a, 0).status, DONE);
+    ANSWERS(nizgrabul_seat_new_arenas(a, 0).status, LOADER_EXISTS);
+    ANSWERS(nizgrabul_seat_new_loader(a, 0).status, LOADER_EXISTS);
+    ANSWERS(nizgrabul_seat_alloc(a, 1, 100).status, NO_LOADER);
+    ANSWERS(nizgrabul_seat_free(a, 1).status, NO_LOADER);
+    TAKES((block = nizgrabul_seat_take(a, false, 100)).status, DONE);
+    IS(block.value == 0);
+    TAKES((block = nizgrabul_seat_take(a, true, 1)).status, DONE);
+    IS(block.value == 67108864 && nizgrabul_seat_used(a) == 102);
+    ANSWERS(nizgrabul_seat_let_go(a), DONE);
+    ANSWERS(nizgrabul_seat_give(a, false, block.value, 2).status, NOT_LIVE);
+    ANSWERS(nizgrabul_seat_give(a, true, block.value, 1).status, NOT_LIVE);
+    ANSWERS(nizgrabul_seat_give(a, true, block.value, 2).status, DONE);
+    ANSWERS(nizgrabul_seat_give(a, true, block.value, 2).status, NOT_LIVE);
+    ANSWERS(nizgrabul_seat_give(a, false, 0, 99).status, NOT_LIVE);
+    ANSWERS(nizgrabul_seat_give(a, false, 1, 99).status, NOT_LIVE);
+    TAKES((block = nizgrabul_seat_take(a, false, 412)).status, DONE);
+    IS(block.value == 100);
+    TAKES(nizgrabul_seat_take(a, false, 2).status, NOT_HELD);
+    ANSWERS(nizgrabul_seat_take(a, false, 0).status, ZERO_WORDS);
+    ANSWERS(nizgrabul_seat_take(a, false, 600000).status, TOO_LARGE);
+    ANSWERS(nizgrabul_seat_give(a, false, 0, 100).status, DONE);
+    TAKES((block = nizgrabul_seat_take(a, false, 100)).status, DONE);
+    IS(block.value == 0 && nizgrabul_seat_used(a) == 514);
+    ANSWERS(nizgrabul_seat_unload(a).status, NOT_HELD);
+    ANSWERS(nizgrabul_seat_hold(a), DONE);
+    TAKES(nizgrabul_seat_take(a, false, 8193).status, COMMIT_LIMIT);
+    ANSWERS(nizgrabul_seat_unload(a).status, DONE);
+    ANSWERS(nizgrabul_seat_unload(a).status, NO_LOADER);
+    IS(nizgrabul_seat_used(a) == 0);
+    nizgrabul_seat_end(a);
+}
+
 static void run(void) {
     nizgrabul_options options = {.nodes = 1, .class_nodes = 1, .max_granules = 2, .policy = NIZGRABUL_BALANCED};
     nizgrabul_options wrong = {.nodes = 65, .class_nodes = 1, .max_granules = 2, .policy = NIZGRABUL_BALANCED};
     nizgrabul_seat a = {0}, b = {0}, c = {0};
     nizgrabul_sums_of_loader sums = {.kind = 7};
+    nizgrabul_run went = {.first = 7};
     bool bits[2] = {true, true};
     ANSWERS(nizgrabul_share(&wrong, 2, &a), BAD_SETTINGS);
     ANSWERS(nizgrabul_share(&options, 0, &a), BAD_SETTINGS);
@@ -57,7 +98,11 @@ static void run(void) {
     ANSWERS(nizgrabul_seat_unload(&a).status, NO_SEAT);
     ANSWERS(nizgrabul_seat_alloc(&a, 1, 1).status, NO_SEAT);
     ANSWERS(nizgrabul_seat_free(&a, 1).status, NO_SEAT);
+    ANSWERS(nizgrabul_seat_new_arenas(&a, 0).status, NO_SEAT);
+    ANSWERS(nizgrabul_seat_take(&a, false, 1).status, NO_SEAT);
+    ANSWERS(nizgrabul_seat_give(&a, false, 0, 2).status, NO_SEAT);
     ANSWERS(nizgrabul_seat_granules(&a, 0, bits, 2), NO_SEAT);
+    ANSWERS(nizgrabul_seat_next_uncommitted(&a, bits, 2, 0, &went), NO_SEAT);
     ANSWERS(nizgrabul_seat_purge(&a).status, NO_SEAT);
     ANSWERS(nizgrabul_seat_totals(&a, &sums), NO_SEAT);
     IS(nizgrabul_seat_used(&a) == 0);
@@ -72,8 +117,14 @@ static void run(void) {
     ANSWERS(nizgrabul_seat_unload(&a).status, NO_LOADER);
     ANSWERS(nizgrabul_seat_alloc(&a, 1, 1).status, NO_LOADER);
     ANSWERS(nizgrabul_seat_free(&a, 1).status, NO_LOADER);
+    ANSWERS(nizgrabul_seat_new_arenas(&a, 4).status, BAD_KIND);
+    ANSWERS(nizgrabul_seat_new_arenas(&a, 0).status, NOT_HELD);
+    ANSWERS(nizgrabul_seat_take(&a, false, 1).status, NO_LOADER);
+    ANSWERS(nizgrabul_seat_give(&a, false, 0, 2).status, NO_LOADER);
     ANSWERS(nizgrabul_seat_let_go(&a), NOT_HELD);
     ANSWERS(nizgrabul_seat_granules(&a, 0, bits, 2), NOT_HELD);
+    ANSWERS(nizgrabul_seat_next_uncommitted(&a, bits, 2, 0, &went), NOT_HELD);
+    IS(went.first == 7);
     ANSWERS(nizgrabul_seat_purge(&a).status, NOT_HELD);
     ANSWERS(nizgrabul_seat_totals(&a, &sums), NO_LOADER);
     IS(sums.kind == 7);
@@ -84,12 +135,16 @@ static void run(void) {
     ANSWERS(nizgrabul_seat_new_loader(&b, 0).status, NOT_HELD);
     ANSWERS(nizgrabul_seat_new_loader(&a, 0).status, DONE);
     ANSWERS(nizgrabul_seat_new_loader(&a, 0).status, LOADER_EXISTS);
+    ANSWERS(nizgrabul_seat_new_arenas(&a, 0).status, LOADER_EXISTS);
+    ANSWERS(nizgrabul_seat_take(&a, false, 1).status, NO_LOADER);
     ANSWERS(nizgrabul_seat_granules(&a, 0, bits, 2), DONE);
     IS(!bits[0] && !bits[1]);
     TAKES(nizgrabul_seat_alloc(&a, 1, 100).status, DONE);
     ANSWERS(nizgrabul_seat_alloc(&a, 1, 100).status, BLOCK_EXISTS);
     ANSWERS(nizgrabul_seat_granules(&a, 0, bits, 2), DONE);
     IS(bits[0] && !bits[1]);
+    ANSWERS(nizgrabul_seat_next_uncommitted(&a, bits, 2, 0, &went), DONE);
+    IS(went.first == 0 && went.granules == 0 && went.came == 0);
     IS(nizgrabul_seat_used(&a) == 100);
     ANSWERS(nizgrabul_seat_let_go(&a), DONE);
     /* The first chunk has 512 words: 400 more fit, and no more. */
@@ -115,12 +170,17 @@ static void run(void) {
     ANSWERS(nizgrabul_seat_hold(&a), DONE);
     ANSWERS(nizgrabul_seat_unload(&a).status, DONE);
     IS(nizgrabul_seat_used(&a) == 0);
+    ANSWERS(nizgrabul_seat_next_uncommitted(&a, bits, 2, 0, &went), DONE);
+    IS(went.first == 0 && went.granules == 1 && went.came == 0);
+    ANSWERS(nizgrabul_seat_next_uncommitted(&a, bits, 2, 1, &went), DONE);
+    IS(went.first == 1 && went.granules == 0);
     ANSWERS(nizgrabul_seat_granules(&a, 0, bits, 2), DONE);
     IS(!bits[0] && !bits[1]);
     nizgrabul_answer gone = nizgrabul_seat_purge(&a);
     IS(gone.status == NIZGRABUL_DONE && gone.value == 1);
     nizgrabul_seat_end(&a);
     nizgrabul_seat_end(&a);
+    run_without_numbers();
     IS(!a.live && blocks == 0);
 }
 

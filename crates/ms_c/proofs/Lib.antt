@@ -1,7 +1,11 @@
 pub mod AloneLemmas
+pub mod ArenasLemmas
 pub mod AsBox
 pub mod AsSeat
 pub mod BitLemmas
+pub mod HostedLemmas
+pub mod RunLemmas
 pub mod SeatedLemmas
 pub mod ServedLemmas
+pub mod TakingLemmas
 pub mod Walking

@@ -1,7 +1,9 @@
 -- What the calls of a seat answer in numbers, and what each is: a call of the member that the seat
 -- has.
-use Rattle.std.specs.Prelude.{◌≡◌, ℕ, ◌≤◌, ◌<◌, ◌⊎◌, Bool, List, [], Option, Some, None}
+use Rattle.std.specs.Prelude.{◌≡◌, ℕ, ◌≤◌, ◌<◌, ◌⊎◌, Bool, true, false, List, [], Option, Some, None}
 use Rattle.ms_base.specs.declared.kind.Kind.{Kind}
+use Rattle.ms_base.specs.declared.kind.Space.{Space}
+use Rattle.ms_base.specs.declared.kind.Space.TheVariants.{NonClass, Class}
 use Rattle.ms_base.specs.declared.settings.Settings.{Settings}
 use Rattle.ms_base.specs.declared.step.Reply.{Reply}
 use Rattle.ms_base.specs.State.{limits_of}
@@ -9,12 +11,15 @@ use Rattle.ms_loaders.specs.declared.system.sums.LoaderTotals.{LoaderTotals}
 use Rattle.ms_c.specs.declared.answer.Answer.{Answer}
 use Rattle.ms_c.specs.declared.totals.LoaderSums.{LoaderSums}
 use Rattle.ms_c.specs.declared.options.Options.{Options}
+use Rattle.ms_c.specs.declared.runs.Run.{Run}
 use Rattle.ms_c.specs.Answers.{numbers, bad_kind, no_seat, not_held, told_by}
 use Rattle.ms_c.specs.Kinds.{kind_number}
 use Rattle.ms_c.specs.Sums.{loader_told}
 use Rattle.ms_c.specs.Settings.{AreSettings, AreFit}
 use Rattle.ms_c.specs.Seating.{Seated}
 use Rattle.ms_c.specs.Member.{MemberState, IsFirst, Splits, AnswersNew, TellsPool, Purges, AreItsSums}
+use Rattle.ms_c.specs.Member.{FindsRun}
+use Rattle.ms_c.specs.Taking.{AnswersNewArenas}
 
 -- The member is answered so.
 pub record Called (is : MemberState → Option Reply → MemberState → Type 0) (before : MemberState) (answer : Answer)
@@ -44,6 +49,21 @@ pub record LacksKind (before : Seated) (number : ℕ) (answer : Answer) (after :
 abbrev pub MakesLoaderAt : Seated → ℕ → Answer → Seated → Type 0
 MakesLoaderAt before number answer after =
     MakesKind before number answer after ⊎ LacksKind before number answer after
+
+-- So it is of a loader without names.
+pub record MakesArenasOf (before : Seated) (number : ℕ) (answer : Answer) (after : Seated) : Type 0 where
+  pub kind : Kind
+  pub kind_is : kind_number kind ≡ number
+  pub calls : Calls (AnswersNewArenas kind) before answer after
+
+abbrev pub MakesArenasAt : Seated → ℕ → Answer → Seated → Type 0
+MakesArenasAt before number answer after =
+    MakesArenasOf before number answer after ⊎ LacksKind before number answer after
+
+-- The space that C means.
+abbrev pub space_of : Bool → Space
+space_of true = Class
+space_of false = NonClass
 
 -- A pool was made under the settings of the options, and its first seat, which has the others to
 -- spare.
@@ -92,6 +112,12 @@ pub record TellsGranules (seat : Seated) (first count : ℕ) (bits : List Bool) 
   pub member : MemberState
   pub is : seat ≡ Some member
   pub told : TellsPool member first count bits
+
+-- The next run of the granules that went, in the pool that the seat has.
+pub record FindsWent (seat : Seated) (was : List Bool) (from : ℕ) (run : Run) : Type 0 where
+  pub member : MemberState
+  pub is : seat ≡ Some member
+  pub found : FindsRun member was from run
 
 -- The seat doesn't have the pool.
 pub record IsAlone (seat : Seated) : Type 0 where

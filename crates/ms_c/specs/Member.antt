@@ -28,14 +28,20 @@ use Rattle.ms_loaders.specs.Sums.{AreSumsIn}
 use Rattle.ms_loaders.specs.declared.system.sums.LoaderTotals.{LoaderTotals}
 use Rattle.ms_shared.specs.declared.lock_rule.SeatView.{SeatView}
 use Rattle.ms_shared.specs.SeatView.{LockState, SeatState, HeldState, ServesBy, opened_by, new_seats}
+use Rattle.ms_c.specs.declared.member.arenas.Arenas.{Arenas}
+use Rattle.ms_c.specs.declared.runs.Run.{Run}
+use Rattle.ms_c.specs.Arenas.{ServesArenas}
+use Rattle.ms_c.specs.Uncommitted.{is_uncommitted, commits_in, IsNext}
 use Rattle.ms_shared.specs.LockCalls.{TookHeld, GrewHeld, OpenedBothHeld, ClosedBothHeld, PurgedHeld}
 
--- The seat, alone or with the pool that it has; seats to spare; and the loader, if there is one.
+-- The seat, alone or with the pool that it has; seats to spare; and the loader, if there is one, or
+-- the arenas of one without names.
 pub record MemberState : Type 0 where
   pub seat : Option SeatState
   pub held : Option HeldState
   pub spare : List SeatState
   pub loader : Option LoaderView
+  pub arenas : Option Arenas
 
 -- A seat serves a loader: both its accounts, which are two, and it counts some in each space.
 pub record ServesLoader (knows : SeatView) (loader : LoaderView) : Type 0 where
@@ -53,9 +59,16 @@ IsSeated lock (Some seat) None loader = (seat.id ≡ lock.id) × ServesIt seat.k
 IsSeated lock None (Some held) loader = (held.seat.id ≡ lock.id) × ServesIt held.seat.knows loader
 IsSeated lock _ _ loader = ⊥
 
+-- It serves the arenas, where there are any, and then there is no loader.
+abbrev pub HostsArenas : Option Arenas → Option SeatState → Option HeldState → Option LoaderView → Type 0
+HostsArenas None seat held loader = Unit {0}
+HostsArenas (Some arenas) (Some seat) None None = ServesArenas seat.knows arenas
+HostsArenas (Some arenas) None (Some held) None = ServesArenas held.seat.knows arenas
+HostsArenas (Some arenas) _ _ _ = ⊥
+
 -- A seat without the pool and without a loader.
 abbrev pub free_seat : SeatState → List SeatState → MemberState
-free_seat seat spare = record { seat = Some seat; held = None; spare = spare; loader = None }
+free_seat seat spare = record { seat = Some seat; held = None; spare = spare; loader = None; arenas = None }
 
 -- The first seat of a new pool has all others to spare.
 pub record IsFirst (limits : Limits) (count : ℕ) (now : MemberState) : Type 0 where
@@ -115,10 +128,15 @@ pub record MakesLoader (kind : Kind) (old new : MemberState) : Type 0 where
   pub opened : CallsPool (λ held now. OpenedBothHeld held (Ok accounts) now) old
       (Some (new_loader accounts.0 accounts.1 kind)) new
 
+-- There is a loader, with names or without.
+abbrev pub HasLoader : MemberState → Type 0
+HasLoader now =
+    ((loader : LoaderView) × (now.loader ≡ Some loader)) ⊎ ((arenas : Arenas) × (now.arenas ≡ Some arenas))
+
 -- Why none is made: there is one; or the pool has no numbers left.
 abbrev pub MakesNone : MemberState → Refusal → MemberState → Type 0
 MakesNone old refusal new =
-    ((refusal ≡ LoaderExists) × ((loader : LoaderView) × (old.loader ≡ Some loader)) × (new ≡ old))
+    ((refusal ≡ LoaderExists) × HasLoader old × (new ≡ old))
     ⊎ ((old.loader ≡ None) × CallsPool (λ held now. OpenedBothHeld held (Err refusal) now) old None new)
 
 abbrev pub AnswersNew : Kind → MemberState → Option Reply → MemberState → Type 0
@@ -264,6 +282,13 @@ pub record TellsPool (member : MemberState) (first count : ℕ) (bits : List Boo
   pub held : HeldState
   pub has : member.held ≡ Some held
   pub bits_are : bits ≡ map (granule_at held.pool first) (range_with_len 0 count)
+
+-- The next run, from a granule on, of those that were committed by their flags and are no more in
+-- the pool that the seat has.
+pub record FindsRun (member : MemberState) (was : List Bool) (from : ℕ) (run : Run) : Type 0 where
+  pub held : HeldState
+  pub has : member.held ≡ Some held
+  pub next : IsNext (is_uncommitted was (commits_in held.pool.committed held.pool.class_committed)) from run
 
 -- What is told of a loader's answer over the pool.
 abbrev pub block_told : Result Block Refusal → Reply

@@ -1,4 +1,4 @@
-//! What a call answers, in numbers.
+//! What a call returns, in numbers.
 ghost use Rattle.std.specs.Prelude.{◌≡◌, OnOk, IfErr};
 ghost use Rattle.ms_c.specs.Answers.{told, refused_as, numbers, told_by};
 
@@ -160,7 +160,7 @@ pub fn tell_seated(reply: Option<Reply>) -> Answer
     }
 }
 
-/// Tells in numbers what was done with no answer but that, or why it was not.
+/// Returns in numbers that it was done, or why it was not.
 pub fn tell_done(answer: Result<(), Refusal>) -> Answer
     ensures done { OnOk answer (result ≡ numbers 0 0 0 0) }
     ensures refused { IfErr answer (λ refusal. result ≡ refused_as refusal) }

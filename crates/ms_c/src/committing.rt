@@ -1,4 +1,4 @@
-//! The exports that allocate and tell which granules became committed.
+//! The exports that allocate and return which granules became committed.
 ghost use Rattle.std.specs.Prelude.{◌≡◌, ◌≢◌};
 ghost use Rattle.ms_base.specs.declared.kind.Space.TheVariants.{NonClass, Class};
 ghost use Rattle.ms_base.specs.declared.step.Step.TheVariants.{Alloc, Calloc};
@@ -12,7 +12,7 @@ use crate::runs::{Run, tell_run};
 use ms_base::{Reply, Space};
 use std::alloc::Global;
 
-/// Allocates a block as `nizgrabul_alloc` does, and tells in `out` the run of granules that it
+/// Allocates a block as `nizgrabul_alloc` does, and writes to `out` the run of granules that it
 /// committed: each that became committed lies in it, and each of it is committed now; none has
 /// gone. Under the policies balanced and aggressive all of the run became committed; under none
 /// some of it may have been before. All but DONE leave `out` as it was. Takes memory.
@@ -34,8 +34,8 @@ pub extern "C" fn nizgrabul_alloc_with_run(
     allocate(alloc, handle, Space::NonClass, loader, block, words, out)
 }
 
-/// Allocates a block in the class space, and returns the run of granules that it committed, as
-/// `nizgrabul_alloc_with_run` does. Takes memory.
+/// Allocates a block in the class space, and writes the run of granules that it committed to `out`,
+/// as `nizgrabul_alloc_with_run` does. Takes memory.
 #[unsafe(no_mangle)]
 pub extern "C" fn nizgrabul_calloc_with_run(
     alloc: Global,

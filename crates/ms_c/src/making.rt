@@ -10,7 +10,7 @@ use ms_loaders::System;
 use std::alloc::Global;
 
 /// What the calls and structs for C are counted by: it rises where one of them changes.
-const VERSION: u32 = 5;
+const VERSION: u32 = 6;
 
 /// Returns the library's version, for a program to compare with the NIZGRABUL_VERSION of its
 /// header. Takes no memory.
@@ -22,7 +22,7 @@ pub extern "C" fn nizgrabul_version() -> u32
 }
 
 /// Makes a system with no loader in an empty handle, under the settings that the options name.
-/// Answers IN_USE exactly where the handle has a system already, in an empty one BAD_SETTINGS
+/// Returns IN_USE exactly where the handle has a system already, in an empty one BAD_SETTINGS
 /// exactly where an option is out of its range, and else DONE or OUT_OF_MEMORY; all but DONE leave
 /// the handle as it was. Takes memory.
 #[unsafe(no_mangle)]

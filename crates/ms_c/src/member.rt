@@ -4,18 +4,25 @@
 //!     hold ──> seat and pool ──> calls that need the pool ──> let_go ──> seat alone
 //!
 //! Kept true: there is one seat, of the pool's lock, with the pool or without; it serves both
-//! accounts of the loader, where there is one; seats to spare are of the same lock. So a loader is
+//! accounts of the loader, where there is one, with names for its blocks or without; seats to spare are of the same lock. So a loader is
 //! where its seat is, and goes with it from thread to thread. Nothing here waits: `hold` tries
 //! once. `share` and `split` take memory, and an allocation does.
 ghost use Rattle.std.specs.Prelude.{◌≡◌, IsTrue, IsFalse, IfSome, IfNone, None, length, map};
 ghost use Rattle.std.specs.List.{All, range_with_len};
 ghost use Rattle.std.specs.Arc.{arc_value};
-ghost use Rattle.ms_c.specs.Member.{free_seat, Holds, LetsGo, LacksPool, used_of_it, TellsPool, granule_at, AreItsSums};
+ghost use Rattle.ms_c.specs.Member.{free_seat, Holds, LetsGo, LacksPool, TellsPool, granule_at, AreItsSums};
+ghost use Rattle.ms_c.specs.Taking.{used_of_them};
+ghost use Rattle.ms_c.specs.Member.{FindsRun};
 
+mod arenas;
 mod loading;
 mod place;
 mod sharing;
+mod taking;
 
+use crate::granules::next_run;
+use crate::runs::Run;
+use arenas::Arenas;
 use ms_loaders::{Loader, LoaderTotals};
 use ms_shared::{HeldSeat, PoolSeat, SharedPool};
 use std::alloc::Global;
@@ -34,6 +41,8 @@ pub struct Member {
     spare: Vec<PoolSeat>,
     // The loader.
     loader: Option<Loader>,
+    // The arenas of a loader without names, in its place.
+    arenas: Option<Arenas>,
 }
 
 impl Drop for Member {
@@ -45,6 +54,7 @@ impl Drop for Member {
             held,
             spare: _,
             loader: _,
+            arenas: _,
         } = self;
         if let Some(held) = held {
             drop(shared.resume(held).let_go());
@@ -60,17 +70,19 @@ impl Model for Member {
     ghost use Rattle.std.specs.Prelude.{◌≡◌};
     ghost use Rattle.std.specs.List.{All};
     ghost use Rattle.std.specs.Arc.{arc_value};
-    ghost use Rattle.ms_c.specs.Member.{IsSeated};
+    ghost use Rattle.ms_c.specs.Member.{IsSeated, HostsArenas};
 
     ghost view = { λ member. record {
       seat = member.seat;
       held = member.held;
       spare = member.spare.items;
       loader = member.loader;
+      arenas = member.arenas;
     } };
 
     ghost invariant = { λ member.
         IsSeated (arc_value member.shared) member.seat member.held member.loader
+        × HostsArenas member.arenas member.seat member.held member.loader
         × All (λ seat. seat.id ≡ (arc_value member.shared).id) member.spare.items };
 }
 
@@ -87,6 +99,7 @@ impl Member {
             held: None,
             spare,
             loader: None,
+            arenas: None,
         }
     }
 
@@ -100,6 +113,7 @@ impl Member {
             held: _,
             spare: _,
             loader: _,
+            arenas: _,
         } = self;
         seat
     }
@@ -138,11 +152,14 @@ impl Member {
         true
     }
 
-    /// Returns the words in use of the loader, in both spaces, and 0 where there is none. Takes no
-    /// memory, and visits no chunk.
+    /// Returns the words in use of the loader, with names or without, in both spaces, and 0 where
+    /// there is none. Takes no memory, and visits no chunk.
     pub fn used(&self) -> u64
-        ensures { result ≡ used_of_it self.now.loader }
+        ensures { result ≡ used_of_them self.now.arenas self.now.loader }
     {
+        if let Some(arenas) = &self.arenas {
+            return arenas.arena.used() + arenas.class_arena.used();
+        }
         match &self.loader {
             Some(loader) => loader.used(),
             None => 0,
@@ -179,6 +196,18 @@ impl Member {
                 true
             }
             None => false,
+        }
+    }
+
+    /// Returns the first run, from a granule on, of those that were committed by their flags and are
+    /// no more in the pool, where the seat has that. Takes no memory.
+    pub fn next_uncommitted(&self, was: &[bool], from: u64) -> Option<Run>
+        ensures found { IfSome result (FindsRun self.now was.now from) }
+        ensures lacks { IfNone result (self.now.held ≡ None) }
+    {
+        match &self.held {
+            Some(held) => Some(next_run(held, was, from)),
+            None => None,
         }
     }
 }

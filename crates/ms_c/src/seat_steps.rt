@@ -1,7 +1,8 @@
 //! The exports by which a seat's loader comes, allocates, frees and goes.
 ghost use Rattle.std.specs.Prelude.{◌≡◌, IfSome, IfNone};
 ghost use Rattle.ms_base.specs.declared.kind.Space.TheVariants.{NonClass, Class};
-ghost use Rattle.ms_c.specs.Member.{AnswersNew, AnswersUnload, AnswersAlloc, AnswersFree};
+ghost use Rattle.ms_c.specs.Member.{AnswersNew, AnswersAlloc, AnswersFree};
+ghost use Rattle.ms_c.specs.Taking.{AnswersUnloadAny};
 ghost use Rattle.ms_c.specs.Answers.{numbers, not_held};
 ghost use Rattle.ms_c.specs.Calls.{Calls, MakesLoaderAt, PurgesPool};
 
@@ -11,9 +12,10 @@ use crate::seating::Seat;
 use ms_base::{Kind, Space};
 use std::alloc::Global;
 
-/// Makes the seat's loader, with nothing of its own, over the pool that the seat has. The kind is 0
-/// standard, 1 boot, 2 reflection or 3 hidden; BAD_KIND answers any other. Refused with NO_SEAT,
-/// LOADER_EXISTS, NOT_HELD and IDS_USED_UP. Takes no memory.
+/// Makes the seat's loader, with nothing of its own and with numbers for its blocks, over the pool
+/// that the seat has. The kind is 0 standard, 1 boot, 2 reflection or 3 hidden; any other is
+/// refused with BAD_KIND. Refused with NO_SEAT, LOADER_EXISTS, NOT_HELD and IDS_USED_UP. Takes no
+/// memory.
 #[unsafe(no_mangle)]
 pub extern "C" fn nizgrabul_seat_new_loader(alloc: Global, seat: &mut Seat, kind: u32) -> Answer
     ensures { MakesLoaderAt seat.old.slot.held kind result seat.new.slot.held }
@@ -38,13 +40,13 @@ fn new_loader(alloc: Global, seat: &mut Seat, kind: Kind) -> Answer
     }
 }
 
-/// Unloads the seat's loader, over the pool that the seat has: all its blocks and chunks go with
-/// it, and the seat may make another. Under the policies balanced and aggressive just the granules
-/// stay committed that a chunk of another loader still needs; under none all stay. Refused with
-/// NO_SEAT, NO_LOADER and NOT_HELD. Takes no memory.
+/// Unloads the seat's loader, with numbers for its blocks or without, over the pool that the seat
+/// has: all its blocks and chunks go with it, and the seat may make another. Under the policies
+/// balanced and aggressive just the granules stay committed that a chunk of another loader still
+/// needs; under none all stay. Refused with NO_SEAT, NO_LOADER and NOT_HELD. Takes no memory.
 #[unsafe(no_mangle)]
 pub extern "C" fn nizgrabul_seat_unload(alloc: Global, seat: &mut Seat) -> Answer
-    ensures { Calls AnswersUnload seat.old.slot.held result seat.new.slot.held }
+    ensures { Calls AnswersUnloadAny seat.old.slot.held result seat.new.slot.held }
 {
     match seat.take(alloc) {
         None => Answer::NO_SEAT,
@@ -59,9 +61,10 @@ pub extern "C" fn nizgrabul_seat_unload(alloc: Global, seat: &mut Seat) -> Answe
 /// Allocates a block of so many words, 1 to 524288, outside the class space, under a number that
 /// the seat's loader has no block of; `value` is the word where it starts. One word makes a block
 /// of two. Where the seat has the pool, granules may become committed. Where it doesn't, no lock is
-/// tried: the block comes of the committed words that the loader has, and NOT_HELD answers where
-/// these don't serve. Refused, in this order, with NO_SEAT, NO_LOADER, BLOCK_EXISTS, ZERO_WORDS,
-/// TOO_LARGE, and with NOT_HELD, RESERVE_LIMIT, COMMIT_LIMIT or OUT_OF_MEMORY. Takes memory.
+/// tried: the block comes of the committed words that the loader has, and the call returns NOT_HELD
+/// where these don't serve. Refused, in this order, with NO_SEAT, NO_LOADER, BLOCK_EXISTS,
+/// ZERO_WORDS, TOO_LARGE, and with NOT_HELD, RESERVE_LIMIT, COMMIT_LIMIT or OUT_OF_MEMORY. Takes
+/// memory.
 #[unsafe(no_mangle)]
 pub extern "C" fn nizgrabul_seat_alloc(
     alloc: Global,

@@ -1,6 +1,6 @@
-//! The exports that tell of a seat and its loader, and change nothing.
+//! The exports that return what a seat and its loader have, and change nothing.
 ghost use Rattle.std.specs.Prelude.{◌≡◌, ◌≢◌, ◌↔◌, ◌⊎◌, None, IfSome, length};
-ghost use Rattle.ms_c.specs.Member.{used_of_it};
+ghost use Rattle.ms_c.specs.Taking.{used_of_them};
 ghost use Rattle.ms_c.specs.Calls.{TellsGranules, IsAlone, TellsIts, HasNone};
 
 use crate::answer::{DONE, NO_LOADER, NO_SEAT, NOT_HELD};
@@ -8,11 +8,12 @@ use crate::seating::Seat;
 use crate::totals::{LoaderSums, tell_loader};
 use std::alloc::Global;
 
-/// Returns the words in use of the seat's loader, in both spaces, and 0 where there is none. Takes
-/// no memory.
+/// Returns the words in use of the seat's loader, with numbers for its blocks or without, in both
+/// spaces, and 0 where there is none. Takes no memory.
 #[unsafe(no_mangle)]
 pub extern "C" fn nizgrabul_seat_used(alloc: Global, seat: &mut Seat) -> u64
-    ensures words { IfSome seat.old.slot.held (λ member. result ≡ used_of_it member.loader) }
+    ensures words { IfSome seat.old.slot.held
+        (λ member. result ≡ used_of_them member.arenas member.loader) }
     ensures no_seat { seat.old.slot.held ≡ None → result ≡ 0 }
     ensures unchanged { seat.new.slot.held ≡ seat.old.slot.held }
 {
@@ -26,9 +27,9 @@ pub extern "C" fn nizgrabul_seat_used(alloc: Global, seat: &mut Seat) -> u64
     }
 }
 
-/// Returns of each granule from the first on, as many as `out` has places, whether it is committed
-/// in the pool that the seat has. Answers DONE; NOT_HELD exactly where the seat doesn't have the
-/// pool, and NO_SEAT, which leave `out` as it was. Takes no memory.
+/// Writes to `out` of each granule from `first` on, as many as it has places, whether it is
+/// committed in the pool that the seat has. Returns DONE; NOT_HELD exactly where the seat doesn't
+/// have the pool, and NO_SEAT, which leave `out` as it was. Takes no memory.
 #[unsafe(no_mangle)]
 pub extern "C" fn nizgrabul_seat_granules(
     alloc: Global,
@@ -52,9 +53,9 @@ pub extern "C" fn nizgrabul_seat_granules(
     if has_told { DONE } else { NOT_HELD }
 }
 
-/// Returns the sums of the seat's loader. Answers DONE, NO_SEAT, or NO_LOADER where there is none;
-/// all but DONE leave `out` as it was. Takes no memory; visits each chunk of the loader, and no
-/// block.
+/// Writes the sums of the seat's loader to `out`. Returns DONE, NO_SEAT, or NO_LOADER where there
+/// is none with numbers; all but DONE leave `out` as it was. Takes no memory; visits each chunk of
+/// the loader, and no block.
 #[unsafe(no_mangle)]
 pub extern "C" fn nizgrabul_seat_totals(alloc: Global, seat: &mut Seat, out: &mut LoaderSums) -> u32
     ensures totals { result ≡ DONE → TellsIts seat.old.slot.held out.new }

@@ -14,10 +14,10 @@ use std::alloc::Global;
 const MOST_SEATS: u32 = 65_536;
 
 /// Makes a pool with no loader, under the settings that the options name, for so many seats, 1 to
-/// 65536. `out` gets the first seat, which has all others to spare. Answers IN_USE exactly where
-/// `out` has a seat already, where it has none BAD_SETTINGS exactly where an option or the number of
-/// seats is out of its range, and else DONE or OUT_OF_MEMORY; all but DONE leave `out` as it was.
-/// Takes memory.
+/// 65536. `out` gets the first seat, which has all others to spare. Returns IN_USE exactly where
+/// `out` has a seat already, where it has none BAD_SETTINGS exactly where an option or the number
+/// of seats is out of its range, and else DONE or OUT_OF_MEMORY; all but DONE leave `out` as it
+/// was. Takes memory.
 #[unsafe(no_mangle)]
 pub extern "C" fn nizgrabul_share(
     alloc: Global,
@@ -58,9 +58,10 @@ pub extern "C" fn nizgrabul_share(
     }
 }
 
-/// Gives `out` one of the seats that `seat` has to spare, for a loader of its own and for any thread.
-/// Answers NO_SEAT exactly where `seat` has none, IN_USE where `out` has one already, NO_SPARE where
-/// none is to spare, and else DONE or OUT_OF_MEMORY; all but DONE change nothing. Takes memory.
+/// Gives `out` one of the seats that `seat` has to spare, for a loader of its own and for any
+/// thread. Returns NO_SEAT exactly where `seat` has none, IN_USE where `out` has one already,
+/// NO_SPARE where none is to spare, and else DONE or OUT_OF_MEMORY; all but DONE change nothing.
+/// Takes memory.
 #[unsafe(no_mangle)]
 pub extern "C" fn nizgrabul_seat_split(alloc: Global, seat: &mut Seat, out: &mut Seat) -> u32
     ensures split { result ≡ DONE
@@ -103,7 +104,7 @@ pub extern "C" fn nizgrabul_seat_end(alloc: Global, seat: &mut Seat)
     drop(seat.take(alloc));
 }
 
-/// Takes the pool for a seat, by one try, and keeps it until `nizgrabul_seat_let_go`. Answers BUSY
+/// Takes the pool for a seat, by one try, and keeps it until `nizgrabul_seat_let_go`. Returns BUSY
 /// where another seat has the pool, which changes nothing; DONE where the seat has it then, also
 /// where it had; and NO_SEAT. Takes no memory.
 #[unsafe(no_mangle)]
@@ -122,7 +123,7 @@ pub extern "C" fn nizgrabul_seat_hold(alloc: Global, seat: &mut Seat) -> u32
     if has_pool { DONE } else { BUSY }
 }
 
-/// Gives the pool back that a seat has. Answers NOT_HELD where it doesn't have it, and NO_SEAT,
+/// Gives the pool back that a seat has. Returns NOT_HELD where it doesn't have it, and NO_SEAT,
 /// which change nothing, and else DONE. Takes no memory.
 #[unsafe(no_mangle)]
 pub extern "C" fn nizgrabul_seat_let_go(alloc: Global, seat: &mut Seat) -> u32

@@ -9,7 +9,7 @@ use ms_base::{Block, Step};
 use std::alloc::Global;
 
 /// Makes a loader with nothing of its own, under a number that no loader has. The kind is 0
-/// standard, 1 boot, 2 reflection or 3 hidden; BAD_KIND answers any other. Refused with
+/// standard, 1 boot, 2 reflection or 3 hidden; any other is refused with BAD_KIND. Refused with
 /// LOADER_EXISTS, IDS_USED_UP and OUT_OF_MEMORY. Takes memory.
 #[unsafe(no_mangle)]
 pub extern "C" fn nizgrabul_new_loader(

@@ -1,4 +1,4 @@
-//! The exports that tell of a system and change nothing.
+//! The exports that return what a system has, and change nothing.
 ghost use Rattle.std.specs.Prelude.{◌≡◌, ◌≢◌, ◌↔◌, ◌⊎◌, ◌++◌, false, None, IfSome, IfNone, length};
 ghost use Rattle.std.specs.Prelude.{map};
 ghost use Rattle.std.specs.List.{range_with_len};
@@ -16,9 +16,9 @@ use crate::totals::{Counts, LoaderSums, Totals, tell_counts, tell_loader, tell_s
 use ms_loaders::System;
 use std::alloc::Global;
 
-/// Returns how many granules are committed in both spaces and how many may be, and the same of
-/// nodes outside the class space. Answers DONE, or NO_SYSTEM, which leaves `out` as it was. Takes
-/// no memory, and visits no loader and no chunk.
+/// Writes to `out` how many granules are committed in both spaces and how many may be, and the same
+/// of nodes outside the class space. Returns DONE, or NO_SYSTEM, which leaves `out` as it was.
+/// Takes no memory, and visits no loader and no chunk.
 #[unsafe(no_mangle)]
 pub extern "C" fn nizgrabul_counts(alloc: Global, handle: &mut Handle, out: &mut Counts) -> u32
     ensures counts { IfSome handle.old.slot.held (λ m. (result ≡ DONE) × (out.new ≡ counts_of m)) }
@@ -53,9 +53,9 @@ pub extern "C" fn nizgrabul_used_by(alloc: Global, handle: &mut Handle, loader: 
     }
 }
 
-/// Tells whose a word is: `value` is the number of the loader in whose chunk the word lies, in use
-/// or not. Answers NO_LOADER where it lies in nobody's. Takes no memory, and answers in the depth
-/// of a tree and one look-up.
+/// Returns whose a word is: `value` is the number of the loader in whose chunk the word lies, in
+/// use or not. Returns NO_LOADER where it lies in nobody's. Takes no memory, and visits the depth
+/// of a tree and one entry of a table.
 #[unsafe(no_mangle)]
 pub extern "C" fn nizgrabul_holder(alloc: Global, handle: &mut Handle, word: u64) -> Answer
     ensures holder { TellsHolder handle.old.slot.held word result }
@@ -101,8 +101,9 @@ pub extern "C" fn nizgrabul_is_committed(alloc: Global, handle: &mut Handle, gra
     }
 }
 
-/// Returns of each granule from the first on, as many as `out` has places, whether it is committed;
-/// with no system none is. So a program compares before and after in one call. Takes no memory.
+/// Writes to `out` of each granule from `first` on, as many as it has places, whether it is
+/// committed; with no system none is. So a program compares before and after in one call. Takes no
+/// memory.
 #[unsafe(no_mangle)]
 pub extern "C" fn nizgrabul_granules(
     alloc: Global,
@@ -131,8 +132,8 @@ fn write_bits(system: &System, first: u32, out: &mut [bool])
     }
 }
 
-/// Returns all sums over the system. Answers DONE, NO_SYSTEM or OUT_OF_MEMORY; all but DONE leave
-/// `out` as it was. Takes memory while it runs; visits each node, loader and chunk, and no
+/// Writes all sums over the system to `out`. Returns DONE, NO_SYSTEM or OUT_OF_MEMORY; all but DONE
+/// leave `out` as it was. Takes memory while it runs; visits each node, loader and chunk, and no
 /// block.
 #[unsafe(no_mangle)]
 pub extern "C" fn nizgrabul_totals(alloc: Global, handle: &mut Handle, out: &mut Totals) -> u32
@@ -160,9 +161,9 @@ pub extern "C" fn nizgrabul_totals(alloc: Global, handle: &mut Handle, out: &mut
     }
 }
 
-/// Returns the sums of one loader. Answers DONE, NO_SYSTEM, or NO_LOADER where none has the number;
-/// all but DONE leave `out` as it was. Takes no memory; visits each chunk of that loader, no
-/// block, and no other loader.
+/// Writes the sums of one loader to `out`. Returns DONE, NO_SYSTEM, or NO_LOADER where none has the
+/// number; all but DONE leave `out` as it was. Takes no memory; visits each chunk of that loader,
+/// no block, and no other loader.
 #[unsafe(no_mangle)]
 pub extern "C" fn nizgrabul_loader_totals(
     alloc: Global,

@@ -1,7 +1,5 @@
 //! Class loaders come and go in plain Rust, through a safe wrapper that owns the handle.
-mod metaspace;
-
-use metaspace::{Kind, Metaspace, Refused, Settings, Space};
+use classes::metaspace::{Kind, Metaspace, Refused, Settings, Space};
 use std::thread;
 
 fn main() -> Result<(), Refused> {

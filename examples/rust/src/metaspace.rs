@@ -2,7 +2,7 @@
 use std::ops::Range;
 use std::ptr;
 
-mod ffi {
+pub(crate) mod ffi {
     //! The calls as nizgrabul.h has them.
     use super::{Counts, LoaderSums, Run};
 
@@ -28,6 +28,12 @@ mod ffi {
         pub need: u64,
     }
 
+    #[repr(C)]
+    pub struct Seat {
+        pub at: *mut u8,
+        pub live: bool,
+    }
+
     unsafe extern "C" {
         pub fn nizgrabul_version() -> u32;
         pub fn nizgrabul_new(options: *const Options, out: *mut Handle) -> u32;
@@ -43,11 +49,31 @@ mod ffi {
         pub fn nizgrabul_used_by(handle: *mut Handle, loader: u16) -> u64;
         pub fn nizgrabul_granules(handle: *mut Handle, first: u32, out: *mut bool, places: usize);
         pub fn nizgrabul_loader_totals(handle: *mut Handle, loader: u16, out: *mut LoaderSums) -> u32;
+        pub fn nizgrabul_share(options: *const Options, seats: u32, out: *mut Seat) -> u32;
+        pub fn nizgrabul_seat_split(seat: *mut Seat, out: *mut Seat) -> u32;
+        pub fn nizgrabul_seat_end(seat: *mut Seat);
+        pub fn nizgrabul_seat_hold(seat: *mut Seat) -> u32;
+        pub fn nizgrabul_seat_let_go(seat: *mut Seat) -> u32;
+        pub fn nizgrabul_seat_new_loader(seat: *mut Seat, kind: u32) -> Answer;
+        pub fn nizgrabul_seat_unload(seat: *mut Seat) -> Answer;
+        pub fn nizgrabul_seat_alloc(seat: *mut Seat, block: u32, words: u64) -> Answer;
+        pub fn nizgrabul_seat_calloc(seat: *mut Seat, block: u32, words: u64) -> Answer;
+        pub fn nizgrabul_seat_free(seat: *mut Seat, block: u32) -> Answer;
+        pub fn nizgrabul_seat_purge(seat: *mut Seat) -> Answer;
+        pub fn nizgrabul_seat_used(seat: *mut Seat) -> u64;
+        pub fn nizgrabul_seat_granules(seat: *mut Seat, first: u32, out: *mut bool, places: usize) -> u32;
+        pub fn nizgrabul_seat_next_uncommitted(
+            seat: *mut Seat,
+            was: *const bool,
+            places: usize,
+            from: u64,
+            out: *mut Run,
+        ) -> u32;
     }
 }
 
 /// The version of nizgrabul.h that this file was written by.
-pub const VERSION: u32 = 5;
+pub const VERSION: u32 = 6;
 
 /// The settings of a system, under the policy balanced.
 #[derive(Clone, Copy)]
@@ -80,7 +106,6 @@ pub struct Allocation {
 }
 
 /// What is committed and reserved, beside what may be, as nizgrabul.h has it.
-#[allow(dead_code)]
 #[repr(C)]
 #[derive(Clone, Copy, Default)]
 pub struct Counts {
@@ -93,7 +118,6 @@ pub struct Counts {
 }
 
 /// The sums over one loader's arena in a space, as nizgrabul.h has them.
-#[allow(dead_code)]
 #[repr(C)]
 #[derive(Clone, Copy, Default, Debug)]
 pub struct ArenaSums {
@@ -107,7 +131,6 @@ pub struct ArenaSums {
 }
 
 /// The kind of one loader, by its number, and its sums, as nizgrabul.h has them.
-#[allow(dead_code)]
 #[repr(C)]
 #[derive(Clone, Copy, Default, Debug)]
 pub struct LoaderSums {
@@ -117,7 +140,6 @@ pub struct LoaderSums {
 }
 
 /// Kinds of loaders.
-#[allow(dead_code)]
 pub enum Kind {
     Standard = 0,
     Boot = 1,
@@ -126,7 +148,6 @@ pub enum Kind {
 }
 
 /// Whether a block is one of the class space.
-#[allow(dead_code)]
 pub enum Space {
     NonClass,
     Class,
@@ -150,10 +171,14 @@ pub enum Refusal {
     InUse = 21,
     BadSettings = 22,
     BadKind = 23,
+    Busy = 24,
+    NotHeld = 25,
+    NoSeat = 26,
+    NoSpare = 27,
 }
 
 impl Refusal {
-    const ALL: [Refusal; 15] = [
+    const ALL: [Refusal; 19] = [
         Refusal::OutOfMemory,
         Refusal::ZeroWords,
         Refusal::TooLarge,
@@ -169,6 +194,10 @@ impl Refusal {
         Refusal::InUse,
         Refusal::BadSettings,
         Refusal::BadKind,
+        Refusal::Busy,
+        Refusal::NotHeld,
+        Refusal::NoSeat,
+        Refusal::NoSpare,
     ];
 
     fn of(status: u32) -> Refusal {
@@ -177,7 +206,6 @@ impl Refusal {
 }
 
 /// A refusal with its numbers, as nizgrabul.h has them.
-#[allow(dead_code)]
 #[derive(Debug)]
 pub struct Refused {
     pub refusal: Refusal,
@@ -192,7 +220,7 @@ pub struct Metaspace(ffi::Handle);
 // SAFETY: between calls a handle may move to another thread, as nizgrabul.h says.
 unsafe impl Send for Metaspace {}
 
-fn served(answer: ffi::Answer) -> Result<u64, Refused> {
+pub(crate) fn served(answer: ffi::Answer) -> Result<u64, Refused> {
     let ffi::Answer { status, value, limit, need } = answer;
     match status {
         0 => Ok(value),
@@ -201,7 +229,7 @@ fn served(answer: ffi::Answer) -> Result<u64, Refused> {
 }
 
 /// A status that comes with no numbers.
-fn done(status: u32) -> Result<(), Refused> {
+pub(crate) fn done(status: u32) -> Result<(), Refused> {
     served(ffi::Answer { status, value: 0, limit: 0, need: 0 }).map(|_| ())
 }
 

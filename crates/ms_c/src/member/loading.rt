@@ -1,10 +1,12 @@
 //! A member's loader comes, allocates, frees and goes.
 //!
-//! What needs the pool needs that the seat has it, and is else answered with none. A block that the
+//! What needs the pool needs that the seat has it, and returns none else. A block that the
 //! loader places in its own chunks needs no pool.
 ghost use Rattle.std.specs.Prelude.{◌≡◌, Option, IfSome, IfNone, IfOk, IfErr, OnErr};
 ghost use Rattle.ms_base.specs.declared.kind.Space.TheVariants.{NonClass, Class};
 ghost use Rattle.ms_loaders.specs.Loader.{LoaderView, account_in, AllocatesBlock};
+ghost use Rattle.ms_pool.specs.Account.{AccountState};
+ghost use Rattle.ms_shared.specs.SeatView.{ServesBy, opened_by};
 ghost use Rattle.ms_shared.specs.LockCalls.{TookHeld, GrewHeld, OpenedBothHeld, ClosedBothHeld, PurgedHeld};
 ghost use Rattle.ms_c.specs.Member.{AnswersNew, AnswersUnload, AnswersAlloc, AnswersFree, ServesLoader};
 ghost use Rattle.ms_c.specs.Member.{OpensLoader, AnswersAlone, AnswersWithout, AnswersOver, FreesIn};
@@ -20,12 +22,15 @@ use std::alloc::Global;
 
 impl Member {
     /// Makes a loader with nothing of its own but two owner numbers. Refused with `LoaderExists`
-    /// where there is one, and with `IdsUsedUp`; answers none where the seat doesn't have the pool.
-    /// Takes no memory.
+    /// where there is one, with names or without, and with `IdsUsedUp`; returns none where the seat
+    /// doesn't have the pool. Takes no memory.
     pub fn new_loader(&mut self, alloc: Global, kind: Kind) -> Option<Reply>
         ensures { AnswersNew kind self.old result self.new }
     {
         if self.loader.is_some() {
+            return Some(Reply::Refused(Refusal::LoaderExists));
+        }
+        if self.arenas.is_some() {
             return Some(Reply::Refused(Refusal::LoaderExists));
         }
         let Some(held) = self.held.take() else {
@@ -42,9 +47,9 @@ impl Member {
         }
     }
 
-    /// Unloads the loader: all its blocks and chunks go with it. Refused with `NoLoader` where there
-    /// is none; answers none where the seat doesn't have the pool. Takes no memory.
-    pub fn unload(&mut self) -> Option<Reply>
+    /// Unloads the loader with names: all its blocks and chunks go with it. Refused with `NoLoader`
+    /// where there is none; returns none where the seat doesn't have the pool. Takes no memory.
+    pub(super) fn unload_named(&mut self) -> Option<Reply>
         ensures { AnswersUnload self.old result self.new }
     {
         if self.loader.is_none() {
@@ -75,7 +80,7 @@ impl Member {
     }
 
     /// Allocates a block of so many words in a space, under a new name: over the pool where the seat
-    /// has it, else where the loader places it in its own chunks; answers none where that takes the
+    /// has it, else where the loader places it in its own chunks; returns none where that takes the
     /// pool. Refused with `NoLoader`, and as a loader refuses. Takes memory.
     pub fn allocate(&mut self, space: Space, block: u32, words: u64) -> Option<Reply>
         ensures { AnswersAlloc space block words self.old result self.new }
@@ -146,6 +151,9 @@ fn purge_over(shared: &SharedPool, held: HeldSeat) -> (HeldSeat, u32)
     ensures own { result.0.seat.id ≡ held.seat.id }
     ensures serves { (loader : Option LoaderView) → ServesIt held.seat.knows loader
         → ServesIt result.0.seat.knows loader }
+    ensures others { (account : AccountState) → ServesBy held.seat.knows account
+        → ServesBy result.0.seat.knows account }
+    ensures counted { opened_by result.0.seat.knows ≡ opened_by held.seat.knows }
     ensures purged { PurgedHeld held result.1 result.0 }
 {
     let mut pool = shared.resume(held);
@@ -199,8 +207,8 @@ fn ask_pool(
     (pool.pause(), answer)
 }
 
-/// Tells what a loader answers.
-fn tell_block(answer: Result<Block, Refusal>) -> Reply
+/// Returns what an allocation over the pool came to.
+pub(super) fn tell_block(answer: Result<Block, Refusal>) -> Reply
     ensures { result ≡ block_told answer }
 {
     match answer {
@@ -224,7 +232,7 @@ fn allocate_alone(
     }
 }
 
-/// Places a block where the loader has a place for it; answers none where it has none.
+/// Places a block where the loader has a place for it; returns none where it has none.
 fn place(loader: &mut Loader, space: Space, block: u32, words: u64) -> Option<Reply>
     ensures { AnswersAlone space block words loader.old result loader.new }
 {
@@ -232,7 +240,7 @@ fn place(loader: &mut Loader, space: Space, block: u32, words: u64) -> Option<Re
     tell_alone(loader.allocate(&mut source, space, block, words))
 }
 
-/// Tells what a loader answers without the pool: none where it asked for a chunk.
+/// Returns what a loader answers without the pool: none where it asked for a chunk.
 fn tell_alone(answer: Result<Block, Refusal>) -> Option<Reply>
     ensures { result ≡ alone_told answer }
 {

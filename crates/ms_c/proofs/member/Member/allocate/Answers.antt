@@ -11,12 +11,14 @@ returns c =
       held = c.self.inside.held;
       spare = c.self.inside.spare.items;
       loader = c.self.inside.loader;
+      arenas = c.self.inside.arenas;
     } in
     let new : MemberState = record {
       seat = c.self.inside.seat;
       held = Some c.allocate_over-held.result.0;
       spare = c.self.inside.spare.items;
       loader = c.allocate_over-held.new.loader;
+      arenas = c.self.inside.arenas;
     } in
     subst (λ (m : MemberState). AnswersAlloc c.args.space c.args.block c.args.words m
     (Some c.allocate_over-held.result.1) new) c.self.view_is

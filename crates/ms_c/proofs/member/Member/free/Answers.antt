@@ -1,5 +1,6 @@
 use Rattle.std.specs.Arc.{arc_value}
 use Rattle.ms_c.proofs.SeatedLemmas.{seated_still, serves_after_free}
+use Rattle.ms_c.proofs.HostedLemmas.{hosts_freed}
 use Rattle.ms_c.proofs.member.Member.free.Goals as goal
 
 -- the seat serves the loader still
@@ -9,5 +10,7 @@ invariant_of-self c = (
       c.free_in.new.loader
       (serves_after_free c.args.block c.self.inside.loader c.free_in.new.loader c.free_in.result c.free_in.ensures)
       c.self.invariant.0,
-  c.self.invariant.1,
+  hosts_freed c.args.block c.self.inside.arenas c.self.inside.seat c.self.inside.held c.self.inside.loader
+      c.free_in.new.loader c.free_in.result c.free_in.ensures c.self.invariant.1,
+  c.self.invariant.2,
 )

@@ -13,6 +13,7 @@ returns-in_default-clause-held c = λ _. rw (← c.self.view_is) (inr (
     held = c.self.inside.held;
     spare = c.self.inside.spare.items;
     loader = c.self.inside.loader;
+    arenas = c.self.inside.arenas;
   }) (c.take.ensures.after ∙ c.in_default.ensures.value),
 ))
 
@@ -26,5 +27,6 @@ returns-in-Err-clause-busy c = λ _. rw (← c.self.view_is) (
     held = c.self.inside.held;
     spare = c.self.inside.spare.items;
     loader = c.self.inside.loader;
+    arenas = c.self.inside.arenas;
   }) (ap (λ (s : SeatState). Some s) c.in-Err.ensures.busy ∙ c.in-Some.ensures.value),
 )

@@ -9,6 +9,7 @@ use denote.Struct.Owning.{shape, fields, to}
 use denote.Param.Send.{IsSend, IsSync, AllSend, owning_send, struct_send, sendable}
 use Rattle.std.proofs.Crossing as heap
 use Rattle.std.proofs.Crossing.{crosses}
+use Rattle.std.proofs.MapsCrossing.{HashMap-send}
 use Rattle.std.proofs.option.Option.TheSendSync as option
 use Rattle.std.proofs.alloc.Global.TheSendSync as global
 use Rattle.std.specs.Prelude.{Some, None}
@@ -30,6 +31,8 @@ use Rattle.ms_shared.specs.contracts.seat.PoolSeat as seat
 use Rattle.ms_shared.specs.contracts.held_pool.HeldSeat as held
 use Rattle.ms_shared.specs.contracts.shared_pool.SharedPool as shared
 use Rattle.ms_c.specs.contracts.member.Member as member
+use Rattle.ms_c.specs.contracts.member.arenas.Arenas as arenas
+use Rattle.ms_arena.specs.contracts.arena.Arena as arena
 use Rattle.ms_c.specs.Seating.{Seated, seated_by}
 use Rattle.ms_c.specs.contracts.seat_slot.SeatSlot.{the_row, the_type}
 
@@ -37,6 +40,14 @@ loader_send : IsSend loader.the_row
 loader_send =
     search (sendable, crosses, send-Tree, send-Fork, words.the_send, names.the_send, account.the_send)
     depth 60 fits 30000
+
+arena_send : IsSend arena.the_row
+arena_send =
+    search (sendable, crosses, HashMap-send, send-Tree, send-Fork, words.the_send, account.the_send)
+    depth 60 fits 30000
+
+arenas_send : IsSend arenas.the_row
+arenas_send = search (arena_send, sendable, crosses) depth 60 fits 30000
 
 pool_send : IsSend pool.the_row
 pool_send = search (sendable, crosses, mask.the_send, nodes.the_send) depth 60 fits 30000
@@ -74,7 +85,7 @@ shared_sync =
 
 member_send : IsSend member.the_row
 member_send =
-    search (arc.the_send, shared_send, shared_sync, seat_send, held_send, loader_send, sendable, crosses)
+    search (arc.the_send, shared_send, shared_sync, seat_send, held_send, loader_send, arenas_send, sendable, crosses)
     depth 60 fits 30000
 
 held_goes : (alloc : Global) (at : Ptr) (held : Seated) → Keyless (seated_by alloc at held)

@@ -1,0 +1,171 @@
+-- What the calls of a loader without names answer is what its member answers.
+use Rattle.std.proofs.Common.{◌≡◌, ℕ, Option, Some, None, Result, Ok, Err, refl, sym, ap, ◌∙◌, subst, inl, inr}
+use Rattle.std.proofs.Common.{IfOk, IfErr, OnErr, true, false, is_some}
+use Rattle.ms_base.specs.declared.kind.Space.{Space}
+use Rattle.ms_base.specs.declared.kind.Space.TheVariants.{NonClass, Class}
+use Rattle.ms_base.specs.declared.span.Block.{Block}
+use Rattle.ms_base.specs.declared.refusal.Refusal.{Refusal}
+use Rattle.ms_base.specs.declared.step.Reply.{Reply}
+use Rattle.ms_base.specs.declared.step.Reply.TheVariants.{Ok as Done, At, Value, Refused}
+use Rattle.ms_base.specs.Live.{block_words}
+use Rattle.ms_base.specs.Place.{placed}
+use Rattle.ms_base.specs.State.{ArenaState}
+use Rattle.ms_arena.specs.Arena.{ArenaView, PlacedAt, PlaceRefused}
+use Rattle.ms_shared.specs.SeatView.{HeldState}
+use Rattle.ms_c.specs.declared.member.arenas.Arenas.{Arenas}
+use Rattle.ms_c.specs.Arenas.{arena_in, with_arena, PlacesOwn}
+use Rattle.ms_c.specs.Member.{MemberState, AnswersUnload, block_told}
+use Rattle.ms_c.specs.Taking.{TakesAny, TakesAlone, AnswersOwn, GivesAny, AnswersGiving, placed_told}
+use Rattle.ms_c.specs.Taking.{AnswersTake, AnswersGive, TakesBlock, AnswersUnloadArenas, AnswersUnloadOf}
+
+-- What the arenas answer without the pool.
+same_with : (space : Space) (old : Arenas) → with_arena space old (arena_in space old) ≡ old
+same_with NonClass old = refl
+same_with Class old = refl
+
+stays_there : (was is : ArenaView) (n : ℕ) (o : Option (ℕ × ArenaState)) → PlacedAt was n o None is → is ≡ was
+stays_there was is n None its = its
+stays_there was is n (Some place) its = absurd its
+
+pub own_answers : (space : Space) (words : ℕ) (old new : Arenas) (answer : Result (Option Block) Refusal)
+    → IfOk answer (λ found. PlacesOwn space words old found new) → IfErr answer (λ refusal. PlaceRefused words refusal)
+    → OnErr answer (new ≡ old) → AnswersOwn space words old (placed_told answer) new
+own_answers space words old new (Ok (Some made)) places refused same = (made, refl, places)
+own_answers space words old new (Ok None) places refused same =
+    places.new_is
+    ∙ ap (λ (a : ArenaView). with_arena space old a)
+    (stays_there (arena_in space old) places.is (block_words words) (placed (arena_in space old).books (block_words words))
+    places.places.1)
+    ∙ same_with space old
+own_answers space words old new (Err refusal) places refused same = (refused, same)
+
+-- A member with what it has.
+with_arenas : (old : MemberState) (held : Option HeldState) (arenas : Option Arenas) → old.held ≡ held
+    → old.arenas ≡ arenas → record old { held = held; arenas = arenas } ≡ old
+with_arenas old held arenas held_is arenas_is =
+    ap (λ (h : Option HeldState). record old { held = h; arenas = arenas }) (sym held_is)
+    ∙ ap (λ (a : Option Arenas). record old { arenas = a }) (sym arenas_is)
+
+module _ (space : Space) (words : ℕ) (old new : MemberState) where
+  -- What is answered over the pool.
+  taken_told : (answer : Result Block Refusal) → TakesBlock space words old answer new
+      → AnswersTake space words old (Some (block_told answer)) new
+  taken_told (Ok made) its = inl (made, refl, its)
+  taken_told (Err refusal) its = inr (inr its)
+
+  taken : (held now : HeldState) (reply : Reply) (one is : Option Arenas) → old.arenas ≡ one
+      → old.held ≡ Some held → new ≡ record old { held = Some now; arenas = is }
+      → TakesAny space words held one reply is now → AnswersTake space words old (Some reply) new
+  taken held now reply None is found was new_is its =
+      subst (λ (r : Reply). AnswersTake space words old (Some r) new) (sym its.0)
+      (inl (
+        refl,
+        found,
+        new_is ∙ ap (λ (a : Option Arenas). record old { held = Some now; arenas = a }) its.1
+            ∙ ap (λ (h : HeldState). record old { held = Some h; arenas = None }) its.2
+            ∙ with_arenas old (Some held) None was found,
+      ))
+  taken held now reply (Some arenas) is found was new_is its =
+      subst (λ (r : Reply). AnswersTake space words old (Some r) new) (sym its.reply_is)
+      (taken_told its.answer (record {
+        held = held;
+        now = now;
+        arenas = arenas;
+        is = its.is;
+        found = found;
+        was = was;
+        unchanged = its.unchanged;
+        takes = its.takes;
+        new_is = new_is ∙ ap (λ (a : Option Arenas). record old { held = Some now; arenas = a }) its.new_is;
+      }))
+
+  pub take_answers : (held now : HeldState) (reply : Reply) (is : Option Arenas)
+      → old.held ≡ Some held → new ≡ record old { held = Some now; arenas = is }
+      → TakesAny space words held old.arenas reply is now → AnswersTake space words old (Some reply) new
+  take_answers held now reply is was new_is its = taken held now reply old.arenas is refl was new_is its
+
+  -- And without it.
+  own_so : (reply : Option Reply) (arenas is : Arenas) → old.arenas ≡ Some arenas → old.held ≡ None
+      → new ≡ record old { arenas = Some is } → AnswersOwn space words arenas reply is
+      → AnswersTake space words old reply new
+  own_so None arenas is found alone new_is its = (
+    alone,
+    new_is ∙ ap (λ (a : Arenas). record old { arenas = Some a }) its
+        ∙ ap (λ (a : Option Arenas). record old { arenas = a }) (sym found),
+  )
+  own_so (Some (At start)) arenas is found alone new_is its = inr (record {
+    arenas = arenas;
+    is = is;
+    made = its.0;
+    found = found;
+    alone = alone;
+    start_is = its.1;
+    places = its.2;
+    new_is = new_is;
+  })
+  own_so (Some (Refused refusal)) arenas is found alone new_is its = inr (inl (record {
+    arenas = arenas;
+    found = found;
+    cause = its.0;
+    same = new_is ∙ ap (λ (a : Arenas). record old { arenas = Some a }) its.1
+        ∙ ap (λ (a : Option Arenas). record old { arenas = a }) (sym found);
+  }))
+  own_so (Some Done) arenas is found alone new_is its = absurd its
+  own_so (Some (Value value)) arenas is found alone new_is its = absurd its
+
+  alone : (reply : Option Reply) (one is : Option Arenas) → old.arenas ≡ one → old.held ≡ None
+      → new ≡ record old { arenas = is } → TakesAlone space words one reply is
+      → AnswersTake space words old reply new
+  alone reply None is found none new_is its =
+      subst (λ (r : Option Reply). AnswersTake space words old r new) (sym its.0)
+      (inl (refl, found, new_is ∙ ap (λ (a : Option Arenas). record old { arenas = a }) (its.1 ∙ sym found)))
+  alone reply (Some arenas) is found none new_is its =
+      own_so reply arenas its.0 found none
+      (new_is ∙ ap (λ (a : Option Arenas). record old { arenas = a }) its.1) its.2
+
+  pub take_alone_answers : (reply : Option Reply) (is : Option Arenas) → old.held ≡ None
+      → new ≡ record old { arenas = is } → TakesAlone space words old.arenas reply is
+      → AnswersTake space words old reply new
+  take_alone_answers reply is none new_is its = alone reply old.arenas is refl none new_is its
+
+-- What giving back answers.
+module _ (space : Space) (block : Block) (old new : MemberState) where
+  giving_so : (reply : Reply) (arenas is : Arenas) → old.arenas ≡ Some arenas
+      → new ≡ record old { arenas = Some is } → AnswersGiving space block arenas reply is
+      → AnswersGive space block old (Some reply) new
+  giving_so Done arenas is found new_is its =
+      record { arenas = arenas; is = is; found = found; gives = its; new_is = new_is }
+  giving_so (Refused refusal) arenas is found new_is its = inr (record {
+    arenas = arenas;
+    found = found;
+    not_live = its.0;
+    cause = its.1;
+    same = new_is ∙ ap (λ (a : Arenas). record old { arenas = Some a }) its.2
+        ∙ ap (λ (a : Option Arenas). record old { arenas = a }) (sym found);
+  })
+  giving_so (At start) arenas is found new_is its = absurd its
+  giving_so (Value value) arenas is found new_is its = absurd its
+
+  gives : (reply : Reply) (one is : Option Arenas) → old.arenas ≡ one → new ≡ record old { arenas = is }
+      → GivesAny space block one reply is → AnswersGive space block old (Some reply) new
+  gives reply None is found new_is its =
+      subst (λ (r : Reply). AnswersGive space block old (Some r) new) (sym its.0)
+      (inl (refl, found, new_is ∙ ap (λ (a : Option Arenas). record old { arenas = a }) (its.1 ∙ sym found)))
+  gives reply (Some arenas) is found new_is its =
+      giving_so reply arenas its.0 found
+      (new_is ∙ ap (λ (a : Option Arenas). record old { arenas = a }) its.1) its.2
+
+  pub give_answers : (reply : Reply) (is : Option Arenas) → new ≡ record old { arenas = is }
+      → GivesAny space block old.arenas reply is → AnswersGive space block old (Some reply) new
+  give_answers reply is new_is its = gives reply old.arenas is refl new_is its
+
+-- The loader that there is was unloaded.
+pub unloads_arenas : (arenas : Option Arenas) (old : MemberState) (reply : Option Reply) (new : MemberState)
+    → is_some arenas ≡ true → AnswersUnloadArenas old reply new → AnswersUnloadOf arenas old reply new
+unloads_arenas (Some arenas) old reply new is its = its
+unloads_arenas None old reply new is its = absurd (cc)
+
+pub unloads_named : (arenas : Option Arenas) (old : MemberState) (reply : Option Reply) (new : MemberState)
+    → is_some arenas ≡ false → AnswersUnload old reply new → AnswersUnloadOf arenas old reply new
+unloads_named None old reply new is its = its
+unloads_named (Some arenas) old reply new is its = absurd (cc)

@@ -1,0 +1,13 @@
+use Rattle.std.proofs.Common.{Option, sym, subst}
+use Rattle.ms_base.specs.declared.step.Reply.{Reply}
+use Rattle.ms_c.specs.Taking.{AnswersOwn}
+use Rattle.ms_c.proofs.TakingLemmas.{own_answers}
+use Rattle.ms_c.proofs.member.taking.place_own.Goals as goal
+
+-- what the arena answered is told
+pub returns : goal.returns
+returns c =
+    subst (λ (reply : Option Reply). AnswersOwn c.args.space c.args.words c.args.arenas.now reply c.place.new.arenas)
+    (sym c.tell_placed.ensures)
+    (own_answers c.args.space c.args.words c.args.arenas.now c.place.new.arenas c.place.result c.place.ensures.placed
+    c.place.ensures.refused c.place.ensures.unchanged)

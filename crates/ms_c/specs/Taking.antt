@@ -1,0 +1,179 @@
+-- What the calls of a loader without names do to the member that has it: as with names, but that a
+-- block is known by its space, its start and its words.
+use Rattle.std.specs.Prelude.{◌≡◌, ℕ, ◌+◌, ◌⊎◌, Option, Some, None, Result, Ok, Err, OnErr}
+use Rattle.ms_base.specs.declared.kind.Kind.{Kind}
+use Rattle.ms_base.specs.declared.kind.Space.{Space}
+use Rattle.ms_base.specs.declared.span.Block.{Block}
+use Rattle.ms_base.specs.declared.refusal.Refusal.{Refusal}
+use Rattle.ms_base.specs.declared.refusal.Refusal.TheVariants.{NoLoader, NotLive}
+use Rattle.ms_base.specs.declared.step.Reply.{Reply}
+use Rattle.ms_base.specs.declared.step.Reply.TheVariants.{Ok as Done, At, Refused}
+use Rattle.ms_base.specs.Totals.{used_of}
+use Rattle.ms_loaders.specs.Loader.{LoaderView}
+use Rattle.ms_arena.specs.Arena.{account_of, PlaceRefused, IsNotLive}
+use Rattle.ms_shared.specs.declared.lock_rule.SeatView.{SeatView}
+use Rattle.ms_shared.specs.SeatView.{HeldState}
+use Rattle.ms_shared.specs.LockCalls.{ClosedBothHeld}
+use Rattle.ms_c.specs.declared.member.arenas.Arenas.{Arenas}
+use Rattle.ms_c.specs.Arenas.{ServesArenas, OpensArenas, TakesOver, PlacesOwn, GivesBlock, arena_in}
+use Rattle.ms_c.specs.Member.{MemberState, LacksPool, MakesNone, AnswersUnload, used_of_it, block_told}
+
+-- A seat serves the arenas that there are.
+abbrev pub ServesAny : SeatView → Option Arenas → Type 0
+ServesAny knows None = Unit {0}
+ServesAny knows (Some arenas) = ServesArenas knows arenas
+
+-- A loader without names is made over the pool that the seat has.
+pub record MakesArenas (kind : Kind) (old new : MemberState) : Type 0 where
+  pub held : HeldState
+  pub now : HeldState
+  pub arenas : Arenas
+  pub none : old.loader ≡ None
+  pub none_too : old.arenas ≡ None
+  pub was : old.held ≡ Some held
+  pub opened : OpensArenas kind held now arenas
+  pub new_is : new ≡ record old { held = Some now; arenas = Some arenas }
+
+abbrev pub AnswersNewArenas : Kind → MemberState → Option Reply → MemberState → Type 0
+AnswersNewArenas kind old None new = LacksPool old new
+AnswersNewArenas kind old (Some Done) new = MakesArenas kind old new
+AnswersNewArenas kind old (Some (Refused refusal)) new = MakesNone old refusal new
+AnswersNewArenas kind old (Some _) new = ⊥
+
+-- There is no loader without names, and nothing changes.
+abbrev pub FindsNoArenas : MemberState → Refusal → MemberState → Type 0
+FindsNoArenas old refusal new = (refusal ≡ NoLoader) × (old.arenas ≡ None) × (new ≡ old)
+
+-- It is unloaded: both its accounts are closed, and it is gone.
+pub record UnloadsArenas (old new : MemberState) : Type 0 where
+  pub arenas : Arenas
+  pub held : HeldState
+  pub now : HeldState
+  pub found : old.arenas ≡ Some arenas
+  pub was : old.held ≡ Some held
+  pub closed : ClosedBothHeld held (account_of arenas.arena) (account_of arenas.class_arena) now
+  pub new_is : new ≡ record old { held = Some now; arenas = None }
+
+abbrev pub AnswersUnloadArenas : MemberState → Option Reply → MemberState → Type 0
+AnswersUnloadArenas old None new = LacksPool old new
+AnswersUnloadArenas old (Some Done) new = UnloadsArenas old new
+AnswersUnloadArenas old (Some (Refused refusal)) new = FindsNoArenas old refusal new
+AnswersUnloadArenas old (Some _) new = ⊥
+
+-- The seat's loader is unloaded, with names or without.
+abbrev pub AnswersUnloadOf : Option Arenas → MemberState → Option Reply → MemberState → Type 0
+AnswersUnloadOf None old reply new = AnswersUnload old reply new
+AnswersUnloadOf (Some arenas) old reply new = AnswersUnloadArenas old reply new
+
+abbrev pub AnswersUnloadAny : MemberState → Option Reply → MemberState → Type 0
+AnswersUnloadAny old reply new = AnswersUnloadOf old.arenas old reply new
+
+-- The words in use of the loader that there is, and 0 where there is none.
+abbrev pub used_of_them : Option Arenas → Option LoaderView → ℕ
+used_of_them None loader = used_of_it loader
+used_of_them (Some arenas) loader = used_of arenas.arena.books + used_of arenas.class_arena.books
+
+-- The arenas are asked for a block over the pool that a seat has.
+pub record AsksArenas (space : Space) (words : ℕ) (held : HeldState) (old : Arenas) (reply : Reply)
+    (new : Option Arenas) (now : HeldState) : Type 0 where
+  pub is : Arenas
+  pub answer : Result Block Refusal
+  pub new_is : new ≡ Some is
+  pub reply_is : reply ≡ block_told answer
+  pub unchanged : OnErr answer (is ≡ old)
+  pub takes : TakesOver space words held old answer is now
+
+abbrev pub TakesAny : Space → ℕ → HeldState → Option Arenas → Reply → Option Arenas → HeldState → Type 0
+TakesAny space words held None reply new now = (reply ≡ Refused NoLoader) × (new ≡ None) × (now ≡ held)
+TakesAny space words held (Some arenas) reply new now = AsksArenas space words held arenas reply new now
+
+-- What they answer without the pool: none where they have no place for the block.
+abbrev pub AnswersOwn : Space → ℕ → Arenas → Option Reply → Arenas → Type 0
+AnswersOwn space words old None new = new ≡ old
+AnswersOwn space words old (Some (At start)) new =
+    (made : Block) × (start ≡ made.start) × PlacesOwn space words old (Some made) new
+AnswersOwn space words old (Some (Refused refusal)) new = PlaceRefused words refusal × (new ≡ old)
+AnswersOwn space words old (Some _) new = ⊥
+
+abbrev pub TakesAlone : Space → ℕ → Option Arenas → Option Reply → Option Arenas → Type 0
+TakesAlone space words None reply new = (reply ≡ Some (Refused NoLoader)) × (new ≡ None)
+TakesAlone space words (Some arenas) reply new =
+    (is : Arenas) × (new ≡ Some is) × AnswersOwn space words arenas reply is
+
+abbrev pub placed_told : Result (Option Block) Refusal → Option Reply
+placed_told (Ok (Some made)) = Some (At made.start)
+placed_told (Ok None) = None
+placed_told (Err refusal) = Some (Refused refusal)
+
+-- The member's block is allocated, or refused, over the pool that the seat has.
+pub record TakesBlock (space : Space) (words : ℕ) (old : MemberState) (answer : Result Block Refusal)
+    (new : MemberState) : Type 0 where
+  pub held : HeldState
+  pub now : HeldState
+  pub arenas : Arenas
+  pub is : Arenas
+  pub found : old.arenas ≡ Some arenas
+  pub was : old.held ≡ Some held
+  pub unchanged : OnErr answer (is ≡ arenas)
+  pub takes : TakesOver space words held arenas answer is now
+  pub new_is : new ≡ record old { held = Some now; arenas = Some is }
+
+-- It is placed without the pool; and its words aren't allowed, or memory is wanting.
+pub record PlacesBlock (space : Space) (words start : ℕ) (old new : MemberState) : Type 0 where
+  pub arenas : Arenas
+  pub is : Arenas
+  pub made : Block
+  pub found : old.arenas ≡ Some arenas
+  pub alone : old.held ≡ None
+  pub start_is : start ≡ made.start
+  pub places : PlacesOwn space words arenas (Some made) is
+  pub new_is : new ≡ record old { arenas = Some is }
+
+pub record RefusesWords (words : ℕ) (old : MemberState) (refusal : Refusal) (new : MemberState) : Type 0 where
+  pub arenas : Arenas
+  pub found : old.arenas ≡ Some arenas
+  pub cause : PlaceRefused words refusal
+  pub same : new ≡ old
+
+abbrev pub AnswersTake : Space → ℕ → MemberState → Option Reply → MemberState → Type 0
+AnswersTake space words old None new = LacksPool old new
+AnswersTake space words old (Some (At start)) new =
+    ((made : Block) × (start ≡ made.start) × TakesBlock space words old (Ok made) new)
+    ⊎ PlacesBlock space words start old new
+AnswersTake space words old (Some (Refused refusal)) new =
+    FindsNoArenas old refusal new ⊎ RefusesWords words old refusal new ⊎ TakesBlock space words old (Err refusal) new
+AnswersTake space words old (Some _) new = ⊥
+
+-- A block of the arenas is freed, or is not.
+abbrev pub AnswersGiving : Space → Block → Arenas → Reply → Arenas → Type 0
+AnswersGiving space block old Done new = GivesBlock space old block new
+AnswersGiving space block old (Refused refusal) new =
+    (refusal ≡ NotLive) × IsNotLive (arena_in space old) block × (new ≡ old)
+AnswersGiving space block old _ new = ⊥
+
+abbrev pub GivesAny : Space → Block → Option Arenas → Reply → Option Arenas → Type 0
+GivesAny space block None reply new = (reply ≡ Refused NoLoader) × (new ≡ None)
+GivesAny space block (Some arenas) reply new =
+    (is : Arenas) × (new ≡ Some is) × AnswersGiving space block arenas reply is
+
+-- The member's live block is freed; and it is not live there.
+pub record GivesIt (space : Space) (block : Block) (old new : MemberState) : Type 0 where
+  pub arenas : Arenas
+  pub is : Arenas
+  pub found : old.arenas ≡ Some arenas
+  pub gives : GivesBlock space arenas block is
+  pub new_is : new ≡ record old { arenas = Some is }
+
+pub record LacksIt (space : Space) (block : Block) (old : MemberState) (refusal : Refusal) (new : MemberState) : Type 0
+  where
+    pub arenas : Arenas
+    pub found : old.arenas ≡ Some arenas
+    pub not_live : refusal ≡ NotLive
+    pub cause : IsNotLive (arena_in space arenas) block
+    pub same : new ≡ old
+
+abbrev pub AnswersGive : Space → Block → MemberState → Option Reply → MemberState → Type 0
+AnswersGive space block old (Some Done) new = GivesIt space block old new
+AnswersGive space block old (Some (Refused refusal)) new =
+    FindsNoArenas old refusal new ⊎ LacksIt space block old refusal new
+AnswersGive space block old _ new = ⊥

@@ -1,0 +1,165 @@
+//! A loader without names comes, takes blocks, gives them back and goes.
+//!
+//! A block is known by its space, its start and its words. As of a loader with names, what needs the
+//! pool needs that the seat has it, and returns none else.
+ghost use Rattle.std.specs.Prelude.{◌≡◌};
+ghost use Rattle.ms_c.specs.Taking.{AnswersNewArenas, AnswersUnloadArenas, AnswersUnloadAny, AnswersTake, AnswersGive};
+ghost use Rattle.ms_c.specs.Taking.{ServesAny, TakesAny, TakesAlone, AnswersOwn, GivesAny, AnswersGiving, placed_told};
+
+use super::Member;
+use super::arenas::{Arenas, close_arenas, give, open_arenas, place, take_over};
+use super::loading::tell_block;
+use ms_base::{Block, Kind, Refusal, Reply, Space};
+use ms_shared::{HeldSeat, SharedPool};
+use std::alloc::Global;
+
+impl Member {
+    /// Makes a loader without names, with nothing of its own but two owner numbers. Refused with
+    /// `LoaderExists` where there is one, with names or without, and with `IdsUsedUp`; returns none
+    /// where the seat doesn't have the pool. Takes no memory.
+    pub fn new_arenas(&mut self, alloc: Global, kind: Kind) -> Option<Reply>
+        ensures { AnswersNewArenas kind self.old result self.new }
+    {
+        if self.loader.is_some() {
+            return Some(Reply::Refused(Refusal::LoaderExists));
+        }
+        if self.arenas.is_some() {
+            return Some(Reply::Refused(Refusal::LoaderExists));
+        }
+        let Some(held) = self.held.take() else {
+            return None;
+        };
+        let (held, made) = open_arenas(&self.shared, alloc, held, kind);
+        self.held = Some(held);
+        match made {
+            Ok(arenas) => {
+                self.arenas = Some(arenas);
+                Some(Reply::Ok)
+            }
+            Err(refusal) => Some(Reply::Refused(refusal)),
+        }
+    }
+
+    /// Unloads the loader, with names or without: all its blocks and chunks go with it. Refused with
+    /// `NoLoader` where there is none; returns none where the seat doesn't have the pool. Takes no
+    /// memory.
+    pub fn unload(&mut self) -> Option<Reply>
+        ensures { AnswersUnloadAny self.old result self.new }
+    {
+        if self.arenas.is_some() {
+            return self.unload_arenas();
+        }
+        self.unload_named()
+    }
+
+    /// Unloads the loader without names.
+    fn unload_arenas(&mut self) -> Option<Reply>
+        ensures { AnswersUnloadArenas self.old result self.new }
+    {
+        if self.arenas.is_none() {
+            return Some(Reply::Refused(Refusal::NoLoader));
+        }
+        let Some(held) = self.held.take() else {
+            return None;
+        };
+        let Some(arenas) = self.arenas.take() else {
+            unreachable!()
+        };
+        self.held = Some(close_arenas(&self.shared, held, arenas));
+        Some(Reply::Ok)
+    }
+
+    /// Allocates a block of so many words in a space: over the pool where the seat has it, else in
+    /// the loader's own chunks; returns none where that takes the pool. Refused with `NoLoader` where
+    /// there is no loader without names, and as an arena refuses. Takes memory.
+    pub fn take(&mut self, space: Space, words: u64) -> Option<Reply>
+        ensures { AnswersTake space words self.old result self.new }
+    {
+        let Some(held) = self.held.take() else {
+            return place_alone(&mut self.arenas, space, words);
+        };
+        let (held, reply) = take_any(&self.shared, held, &mut self.arenas, space, words);
+        self.held = Some(held);
+        Some(reply)
+    }
+
+    /// Frees a block of a space, with or without the pool. Refused with `NoLoader` where there is no
+    /// loader without names, and with `NotLive` exactly where the loader has no live block there with
+    /// so many words. Takes no memory.
+    pub fn give(&mut self, space: Space, block: Block) -> Option<Reply>
+        ensures { AnswersGive space block self.old result self.new }
+    {
+        Some(give_any(&mut self.arenas, space, block))
+    }
+}
+
+/// Allocates a block for arenas, where there are any, over the pool that a seat has.
+fn take_any(
+    shared: &SharedPool,
+    held: HeldSeat,
+    arenas: &mut Option<Arenas>,
+    space: Space,
+    words: u64,
+) -> (HeldSeat, Reply)
+    requires own { held.seat.id ≡ shared.now.id }
+    requires serves { ServesAny held.seat.knows arenas.old }
+    ensures own { result.0.seat.id ≡ held.seat.id }
+    ensures serves { ServesAny result.0.seat.knows arenas.new }
+    ensures takes { TakesAny space words held arenas.old result.1 arenas.new result.0 }
+{
+    match arenas {
+        None => (held, Reply::Refused(Refusal::NoLoader)),
+        Some(arenas) => {
+            let (held, answer) = take_over(shared, held, arenas, space, words);
+            (held, tell_block(answer))
+        }
+    }
+}
+
+/// Allocates a block for arenas, where there are any, without the pool.
+fn place_alone(arenas: &mut Option<Arenas>, space: Space, words: u64) -> Option<Reply>
+    ensures { TakesAlone space words arenas.old result arenas.new }
+{
+    match arenas {
+        None => Some(Reply::Refused(Refusal::NoLoader)),
+        Some(arenas) => place_own(arenas, space, words),
+    }
+}
+
+/// Allocates a block where its arena has a place; returns none where it has none.
+fn place_own(arenas: &mut Arenas, space: Space, words: u64) -> Option<Reply>
+    ensures { AnswersOwn space words arenas.old result arenas.new }
+{
+    tell_placed(place(arenas, space, words))
+}
+
+/// Returns what an allocation without the pool came to: none where there was no place.
+fn tell_placed(answer: Result<Option<Block>, Refusal>) -> Option<Reply>
+    ensures { result ≡ placed_told answer }
+{
+    match answer {
+        Ok(Some(made)) => Some(Reply::At(made.start)),
+        Ok(None) => None,
+        Err(refusal) => Some(Reply::Refused(refusal)),
+    }
+}
+
+/// Frees a block of arenas, where there are any.
+fn give_any(arenas: &mut Option<Arenas>, space: Space, block: Block) -> Reply
+    ensures { GivesAny space block arenas.old result arenas.new }
+{
+    match arenas {
+        None => Reply::Refused(Refusal::NoLoader),
+        Some(arenas) => give_own(arenas, space, block),
+    }
+}
+
+/// Frees a block where it is live.
+fn give_own(arenas: &mut Arenas, space: Space, block: Block) -> Reply
+    ensures { AnswersGiving space block arenas.old result arenas.new }
+{
+    match give(arenas, space, block) {
+        Ok(()) => Reply::Ok,
+        Err(refusal) => Reply::Refused(refusal),
+    }
+}
