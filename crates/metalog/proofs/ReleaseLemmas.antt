@@ -9,7 +9,7 @@ use Rattle.jvm_log.specs.Hearing.{AreLines, HearsLine, HearsLines, HearsLog, tri
 use Rattle.jvm_log.specs.Reading.{said_in}
 use Rattle.metalog.specs.declared.conversion.Conversion.{Conversion}
 use Rattle.metalog.specs.UnderWay.{GoesOn, Hears}
-use Rattle.metalog.specs.Release.{IsNoOther, IsOfJdk17, LineIsOfJdk17, LogIsOfJdk17}
+use Rattle.metalog.specs.Release.{IsNoOther, LineIsOfJdk17, LogIsOfJdk17}
 
 -- What each line of a log says shows no other release, and takes a conversion further.
 abbrev heard : {E : Type 0} → Conversion E × Option (List ℕ) → ℕ → List ℕ → Said → Conversion E × Option (List ℕ) → Type 0

@@ -2,8 +2,8 @@
 -- other loaders. Used by the functions of `output` and `conversion`.
 use Rattle.std.proofs.Common.{◌≡◌, ◌≤◌, ◌+◌, ◌-◌, ℕ, Bool, true, false, List, [], ◌∷◌, ◌++◌, Option, Result, Ok, Err, refl, sym, ap, ◌∙◌, subst, append_assoc, append-nil, arith, replicate, length, take, get_or, ◌<◌}
 use Rattle.std.proofs.lemmas.List.{take_more}
-use Rattle.std.specs.Prelude.{OnOk, flat_map, map, if◌then◌else◌}
-use Rattle.std.specs.List.{All, AllByRecursion}
+use Rattle.std.specs.Prelude.{OnOk, flat_map, if◌then◌else◌}
+use Rattle.std.specs.List.{AllByRecursion}
 use Rattle.std.specs.Io.KnownBytes.{Appends}
 use Rattle.std.proofs.KnownBytes.{Appends-nil, Appends-trans}
 use Rattle.std.proofs.lemmas.Grind.{flat_map-append}
@@ -15,9 +15,8 @@ use Rattle.ms_trace.specs.Spelling.{IsValid, ReadsAs, rises_above, spelling_of, 
 use Rattle.ms_trace.proofs.PrintingLemmas.{printed_reads}
 use Rattle.jvm_log.specs.declared.placed.Placed.{Placed}
 use Rattle.jvm_log.specs.NameActs.{TakesFree, name_acts}
-use Rattle.jvm_log.specs.Steps.{step_for}
 use Rattle.jvm_log.proofs.NameLemmas.{block_names_none, takes_before}
-use Rattle.metalog.specs.Joining.{IsJoined, asks_for, forgot, forgotten, is_freed_in}
+use Rattle.metalog.specs.Joining.{IsJoined, asks_for, forgotten, is_freed_in}
 use Rattle.metalog.specs.Joining.IsJoined.{none, alone, taken_in}
 use Rattle.metalog.specs.Output.{GoesOut, line_of}
 use Rattle.metalog.specs.Trace.{OpensFree, ReadsOneALine, WritesLines, WritesTrace, commands_of, numbered}

@@ -11,11 +11,11 @@ use Rattle.ms_trace.specs.declared.trace.Command.TheVariants.{Report}
 use Rattle.jvm_log.specs.declared.machine.Machine.{Machine}
 use Rattle.jvm_log.specs.declared.placed.Placed.{Placed}
 use Rattle.jvm_log.specs.NameActs.{TakesFree, name_acts}
-use Rattle.jvm_log.specs.Waits.{Uses, UsesNames, acts_in, names_in, waiting_in}
+use Rattle.jvm_log.specs.Waits.{UsesNames, names_in, waiting_in}
 use Rattle.jvm_log.proofs.NameLemmas.{takes-append, uses_quiet}
 use Rattle.metalog.specs.Joining.{IsJoined, forgotten}
 use Rattle.metalog.specs.Trace.{OpensFree, WritesLines, WritesTrace, commands_of}
-use Rattle.metalog.specs.UnderWay.{GoesOn, HandsOn, HasCome, HasEnded, IsUnderWay}
+use Rattle.metalog.specs.UnderWay.{GoesOn, HandsOn, HasEnded, IsUnderWay}
 use Rattle.metalog.specs.declared.conversion.Conversion.{Conversion}
 use Rattle.metalog.specs.declared.output.Output.{Output}
 use Rattle.metalog.proofs.TraceLemmas.{commands-append, forgotten_commands, joined_acts, no_line, opens_first, opens_quiet, opens_same, trace_is}
