@@ -125,7 +125,7 @@ says_no_help words line (refused.Help text) says told = absurd says
 says_no_help words line (refused.Usage text) says told = absurd told
 says_no_help words line refused.OutOfMemory says told = absurd told
 
--- So where several workers are asked for what one alone tells, or names for another form than a page.
+-- So where several workers are asked for what one alone tells, or names that nothing shows.
 pub alone_is_no_help : (words : List Text) (chosen : Result Options Refused) → IfErr chosen SaysWhy
     → IfErr chosen (λ refused. IsTold refused → AskToBeTold words)
 alone_is_no_help words (Ok options) says = tt
@@ -134,7 +134,7 @@ alone_is_no_help words (Err refused) (inl says) =
 alone_is_no_help words (Err refused) (inr (inl says)) =
     says_no_help words (codes "metarun: --format html or json needs --workers 1\n") refused says
 alone_is_no_help words (Err refused) (inr (inr says)) =
-    says_no_help words (codes "metarun: --names needs --format html\n") refused says
+    says_no_help words (codes "metarun: --names needs --format html or --report full\n") refused says
 
 -- What was chosen from the matches is what the words ask for.
 pub chosen_is_asked : (app : App) (words : List Text) (rows : List Row) (chosen : Result Options Refused)

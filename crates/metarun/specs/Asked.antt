@@ -14,8 +14,12 @@ use Rattle.metarun.specs.declared.asked.Options.{Options}
 use Rattle.metarun.specs.declared.options.Refused.{Refused}
 use Rattle.metarun.specs.declared.options.Refused.TheVariants.{Help, OutOfMemory, Usage}
 
+-- Names are shown on a page, and after a text with full reports.
+abbrev pub ShowsNames : Form → Detail → Type 0
+ShowsNames its detail = (its ≡ form.Html) ⊎ ((its ≡ form.Text) × (detail ≡ Full))
+
 -- The numbers lie in their ranges, only one worker tells addresses, a form other than text has one
--- worker, and names have a page.
+-- worker, and names are shown.
 pub record IsAllowed (options : Options) : Type 0 where
   pub workers_some : 1 ≤ options.settings.workers
   pub workers_few : options.settings.workers ≤ 8
@@ -26,7 +30,7 @@ pub record IsAllowed (options : Options) : Type 0 where
   pub granules_some : 1 ≤ options.settings.max_granules
   pub granules_few : options.settings.max_granules ≤ 40960
   pub class_few : options.settings.class_nodes ≤ 16
-  pub names_shown : options.names ≢ None → options.form ≡ form.Html
+  pub names_shown : options.names ≢ None → ShowsNames options.form options.detail
   pub lines_some : 1 ≤ options.max_lines
   pub lines_few : options.max_lines ≤ 10000000
 
@@ -106,7 +110,7 @@ IsTold (Help text) = ⊤
 IsTold _ = ⊥
 
 -- The rows have addresses or a form, which only one worker may be asked for, or names, which only a
--- page shows.
+-- page and full reports show.
 abbrev pub AskMore : List Row → Type 0
 AskMore rows =
     (one_of (codes "addresses") rows ≢ None)
@@ -119,9 +123,9 @@ Says line (Usage text) = string_bytes text ≡ line
 Says line OutOfMemory = ⊤
 
 -- The line where several workers are asked for addresses, or for a form other than text, and where
--- names are asked for that no page shows.
+-- names are asked for that nothing shows.
 abbrev pub SaysWhy : Refused → Type 0
 SaysWhy refused =
     Says (codes "metarun: --addresses needs --workers 1\n") refused
     ⊎ (Says (codes "metarun: --format html or json needs --workers 1\n") refused
-    ⊎ Says (codes "metarun: --names needs --format html\n") refused)
+    ⊎ Says (codes "metarun: --names needs --format html or --report full\n") refused)

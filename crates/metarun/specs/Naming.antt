@@ -1,5 +1,5 @@
 -- What a file of names has lines for (this project's choice).
-use Rattle.std.specs.Prelude.{ℕ, List, [], ◌∷◌, ◌++◌, Option, Some, None}
+use Rattle.std.specs.Prelude.{◌≡◌, ℕ, List, [], ◌∷◌, ◌++◌, Option, Some, None}
 use Rattle.ms_base.specs.declared.step.Step.TheVariants.{New}
 use Rattle.ms_trace.specs.declared.trace.Command.{Command}
 use Rattle.ms_trace.specs.declared.trace.Command.TheVariants.{Step as Asks}
@@ -23,3 +23,9 @@ made_in (line ∷ lines) = if_made line.number (made_by line.command) ++ made_in
 -- The line and the loader that a line of the file is for.
 abbrev pub line_of : Named → ℕ × ℕ
 line_of named = (named.line, named.loader)
+
+-- A text has grown by a part of these names, which is nothing where there are none.
+pub record AddsNames (named : List Named) (old new : List ℕ) : Type 0 where
+  pub part : List ℕ
+  pub none : named ≡ [] → part ≡ []
+  pub added : new ≡ old ++ part

@@ -1,5 +1,5 @@
 -- What a session writes for a trace (this project's choice).
-use Rattle.std.specs.Prelude.{⊤, ◌≡◌, ◌⊎◌, ℕ, List, [], ◌∷◌, ◌++◌, Option, Some, IfSome, codes, length, take}
+use Rattle.std.specs.Prelude.{⊤, ◌≡◌, ◌⊎◌, ℕ, List, [], ◌∷◌, ◌++◌, Option, None, Some, IfSome, codes, length, take}
 use Rattle.std.specs.Io.KnownBytes.{Appends, IsAtEnd, Keeps}
 use Rattle.std.specs.List.{All}
 use Rattle.ms_base.specs.declared.step.Reply.{Reply}
@@ -53,7 +53,8 @@ Outputs options before old (line ∷ lines) output new =
     × (output ≡ reply_line options.addresses line.number reply ++ report ++ rest)
     × Outputs options (before ++ reply ∷ []) mid lines rest new
 
--- The output is the text of the answers to a trace, which is answered phase by phase, the lines of each
+-- The output is the text of the answers to a trace, and a part of names after it where a file of names is
+-- asked for. The trace is answered phase by phase, the lines of each
 -- in some order one run of the machine, each line by the worker whose turn it is, and a report by the
 -- totals of the state reached, with details where the options ask for them; with one worker the
 -- machine runs through all commands in their order from the empty state.
@@ -61,9 +62,13 @@ pub record IsText (options : Options) (trace : Trace) (output : List ℕ) : Type
   pub answers : List Answer
   pub own : IsReplay (limits_of options.settings) options.settings.workers trace.lines answers
   pub detailed : All (IsDetailed options.detail) answers
-  pub output_is : output ≡ answers_text options.addresses options.detail options.settings answers
+  pub text : List ℕ
+  pub text_is : text ≡ answers_text options.addresses options.detail options.settings answers
+  pub names : List ℕ
+  pub unnamed : options.names ≡ None → names ≡ []
+  pub output_is : output ≡ text ++ names
   pub run : options.settings.workers ≡ 1
-      → (last : Course) × Outputs options [] (begun (empty_machine (limits_of options.settings))) trace.lines output last
+      → (last : Course) × Outputs options [] (begun (empty_machine (limits_of options.settings))) trace.lines text last
 
 -- The output is one document and a newline: that of the answers of one worker, who runs through all
 -- commands in their order from the empty state with full reports; of columns that show each state

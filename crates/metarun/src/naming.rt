@@ -5,10 +5,11 @@
 //! Kept true: the lines of the file are those of the `new` lines of the trace, in their order, each
 //! with the number of its loader. `metalog --names` writes such a file. Takes memory for the texts;
 //! nothing waits.
-ghost use Rattle.std.specs.Prelude.{◌≡◌, ◌++◌, ◌∷◌, [], IfErr, IfOk, OnOk, map};
-ghost use Rattle.metarun.specs.Naming.{line_of, made_by, made_in};
+ghost use Rattle.std.specs.Prelude.{◌≡◌, ◌++◌, ◌∷◌, [], None, IfErr, IfOk, OnOk, map, string_bytes};
+ghost use Rattle.metarun.specs.Naming.{AddsNames, line_of, made_by, made_in};
 ghost use Rattle.metarun.specs.Failure.{IsPageless};
 
+use crate::asked::Options;
 use crate::devices::{ReadFault, read_text};
 use crate::failure::Failure;
 use ms_base::Step;
@@ -36,10 +37,27 @@ pub struct Named {
     pub text: String,
 }
 
+/// Reads the file of names for the lines of a trace, where the options have one, as `read_names` does;
+/// returns nothing where they have none.
+pub fn names_asked<T: Files>(
+    rt: &T,
+    alloc: Global,
+    options: &Options,
+    lines: &[Line],
+) -> Result<Vec<Named>, Failure>
+    ensures none { options.now.names ≡ None → IfOk result (λ named. named.items ≡ []) }
+    ensures pageless { IfErr result IsPageless }
+{
+    match options.names {
+        Some(path) => read_names(rt, alloc, path, lines),
+        None => Ok(Vec::new(alloc)),
+    }
+}
+
 /// Reads a file of names for the lines of a trace. `NamesFile` comes where the file can't be read or
 /// isn't UTF-8, `Misnamed` for the first line of it that isn't that of the next `new` line, or that
 /// is wanting. Takes memory for the file. This project's choice.
-pub fn read_names<T: Files>(
+fn read_names<T: Files>(
     rt: &T,
     alloc: Global,
     path: &str,
@@ -122,7 +140,8 @@ fn name_of(loader: u16, words: &str) -> Option<&str> {
     }
 }
 
-/// Copies a text, whose end gives way to an ellipsis where it has more than 60 characters.
+/// Copies a text, whose end gives way to an ellipsis where it has more than 60 characters, and each
+/// control character to a question mark.
 fn shortened(alloc: Global, text: &str) -> Result<String, AllocError> {
     let mut short = String::new(alloc);
     let is_long = text.chars().count() > MOST_CHARACTERS;
@@ -132,12 +151,33 @@ fn shortened(alloc: Global, text: &str) -> Result<String, AllocError> {
         MOST_CHARACTERS
     };
     for character in text.chars().take(kept) {
-        short.push(character)?;
+        short.push(if character < ' ' { '?' } else { character })?;
     }
     if is_long {
         short.push('…')?;
     }
     Ok(short)
+}
+
+/// Appends the part that ends a text with full reports: a line for each `new` line, with its number,
+/// the loader's and the name. Appends nothing where there is none. Takes memory for the part.
+pub fn push_names(alloc: Global, text: &mut String, named: &[Named]) -> Result<(), AllocError>
+    ensures { OnOk result (AddsNames named.now (string_bytes text.old) (string_bytes text.new)) }
+{
+    if named.is_empty() {
+        return Ok(());
+    }
+    let part = part_of(alloc, named)?;
+    text.push_str(&part)
+}
+
+/// Returns the part of names.
+fn part_of(alloc: Global, named: &[Named]) -> Result<String, AllocError> {
+    let mut part = String::from_str(alloc, "Names\n      line  loader  name\n")?;
+    for its in named {
+        writeln!(part, "{:>10}{:>8}  {}", its.line, its.loader, its.text)?;
+    }
+    Ok(part)
 }
 
 /// Chooses the texts of the loaders that there are at a run's end, each by the line that made it.

@@ -13,7 +13,7 @@ ghost use Rattle.clap.specs.Words.{App, Text, app_of, first_of, found_of, kind_o
 ghost use Rattle.clap.specs.Words.{rule_of, with_rule};
 ghost use Rattle.metarun.specs.Asked.{IsAllowed, IsDefault, IsTold, AreRead, AreAsked, AskMore};
 ghost use Rattle.metarun.specs.Asked.{ReadsDetail, ReadsFlag, ReadsForm, ReadsNumber, ReadsPolicy};
-ghost use Rattle.metarun.specs.Asked.{Says, SaysWhy, number_of};
+ghost use Rattle.metarun.specs.Asked.{Says, SaysWhy, ShowsNames, number_of};
 ghost use Rattle.metarun.specs.CommandLine.{IsCommandLine, IsShown, AskToBeTold, IsPolicyRule};
 ghost use Rattle.metarun.specs.CommandLine.{IsFormatRule, IsReportRule};
 ghost use Rattle.metarun.specs.CommandLine.{number_rule, addresses_rule, names_rule, named};
@@ -43,7 +43,8 @@ pub enum Refused {
 /// the faults is a use of `--help` or of `--version`, `Usage` for an unknown or repeated option, a
 /// missing value, or one out of its range, and where more than one worker is asked for blocks'
 /// addresses, since a schedule decides them, or for a form other than text, which shows the states
-/// that the lines lead to one after the other, and where names are asked for that no page shows.
+/// that the lines lead to one after the other, and where names are asked for that neither a
+/// page nor a text with full reports shows.
 /// Takes memory. This project's choice.
 pub fn options_of<'a, S: AsStr>(alloc: Global, words: &'a [S]) -> Result<Options<'a>, Refused>
     ensures allowed { IfOk result IsAllowed }
@@ -85,8 +86,8 @@ const ADDRESSES_ALONE: &str = "metarun: --addresses needs --workers 1\n";
 /// The line where a page or a document is.
 const FORM_ALONE: &str = "metarun: --format html or json needs --workers 1\n";
 
-/// The line where names are asked for, and no page.
-const NAMES_SHOWN: &str = "metarun: --names needs --format html\n";
+/// The line where names are asked for, and neither a page nor full reports.
+const NAMES_SHOWN: &str = "metarun: --names needs --format html or --report full\n";
 
 /// Refuses a command line with this line for standard error.
 fn refused_with(alloc: Global, line: &str) -> Refused
@@ -99,7 +100,7 @@ fn refused_with(alloc: Global, line: &str) -> Refused
 }
 
 /// Collects what was chosen. Only one worker may show addresses, or write another form than text, and
-/// only a page shows names.
+/// only a page and full reports show names.
 fn chosen<'a>(alloc: Global, matches: &ArgMatches<'a>) -> Result<Options<'a>, Refused>
     ensures allowed { IfOk result IsAllowed }
     ensures read { IfOk result (AreRead (rows_of (found_of matches.now))) }
@@ -116,7 +117,8 @@ fn chosen<'a>(alloc: Global, matches: &ArgMatches<'a>) -> Result<Options<'a>, Re
         return Err(refused_with(alloc, FORM_ALONE));
     }
     let names = names_in(matches);
-    if names.is_some() && !shows_names(form) {
+    let detail = detail_in(matches);
+    if names.is_some() && !shows_names(form, detail) {
         return Err(refused_with(alloc, NAMES_SHOWN));
     }
     Ok(Options {
@@ -128,7 +130,7 @@ fn chosen<'a>(alloc: Global, matches: &ArgMatches<'a>) -> Result<Options<'a>, Re
             class_nodes: number_in(matches, "class-nodes", 0, 16, 0) as u32,
         },
         addresses,
-        detail: detail_in(matches),
+        detail,
         form,
         max_lines: number_in(matches, "max-lines", 1, 10_000_000, 100_000) as u32,
         names,
@@ -252,13 +254,13 @@ fn names_in<'a>(matches: &ArgMatches<'a>) -> Option<&'a str>
     matches.get_str("names")
 }
 
-/// Returns whether a form shows what loaders are called.
-fn shows_names(form: Form) -> bool
-    ensures { IsTrue result ↔ (form ≡ Form.Html) }
+/// Returns whether names are shown: on a page, and after a text with full reports.
+fn shows_names(form: Form, detail: Detail) -> bool
+    ensures { IsTrue result ↔ ShowsNames form detail }
 {
-    match form {
-        Form::Html => true,
-        Form::Text | Form::Json => false,
+    match (form, detail) {
+        (Form::Html, _) | (Form::Text, Detail::Full) => true,
+        _ => false,
     }
 }
 
@@ -471,6 +473,6 @@ fn names<'a>(alloc: Global) -> Arg<'a>
         .long("names")
         .value_name("FILE")
         .help(
-            "Show on a page what FILE says of each 'new' line: the loader's number, a space, a text",
+            "Show with html, or after full reports, what FILE says of each 'new' line: loader, space, text",
         )
 }

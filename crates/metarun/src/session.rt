@@ -11,7 +11,7 @@ use crate::asked::{Form, Options};
 use crate::charting::Chart;
 use crate::devices::{most_bytes, read_text, write_text};
 use crate::failure::Failure;
-use crate::naming::{names_at_end, read_names};
+use crate::naming::{names_asked, names_at_end, push_names};
 use crate::watching::watched;
 use ms_html::page;
 use ms_json::Document;
@@ -86,8 +86,9 @@ fn answer_to<T: Threads + Wait + Files + Sync, R: Read>(
     }
 }
 
-/// Runs a trace, and returns the text of its answers, in this room.
-fn text_of<T: Threads + Wait + Sync>(
+/// Runs a trace, and returns the text of its answers, and of names where a file has them, in this
+/// room.
+fn text_of<T: Threads + Wait + Files + Sync>(
     rt: &T,
     alloc: Global,
     options: &Options,
@@ -95,12 +96,15 @@ fn text_of<T: Threads + Wait + Sync>(
     room: String,
 ) -> Result<String, Failure>
     ensures ok { IfOk result (λ text. IsText options.now trace.now (string_bytes text)) }
-    ensures err { IfErr result IsWant }
+    ensures err { IfErr result IsPageless }
 {
     let (settings, detail) = (options.settings, options.detail);
+    let named = names_asked(rt, alloc, options, trace.lines.as_slice())?;
     let mut answers = AnswerText::new(room, options.addresses, detail, settings);
     replay_into(rt, alloc, trace, settings, detail, &NoGate, &mut answers)?;
-    Ok(answers.into_text())
+    let mut text = answers.into_text();
+    push_names(alloc, &mut text, named.as_slice())?;
+    Ok(text)
 }
 
 /// Runs a trace by one worker, and returns the document of its answers, its course and its end, in
@@ -137,10 +141,7 @@ fn page_of<T: Files>(
     ensures err { IfErr result IsPageless }
 {
     let settings = options.settings;
-    let named = match options.names {
-        Some(path) => read_names(rt, alloc, path, trace.lines.as_slice())?,
-        None => Vec::new(alloc),
-    };
+    let named = names_asked(rt, alloc, options, trace.lines.as_slice())?;
     let (course, end) = watched(alloc, settings, trace)?;
     let names = names_at_end(alloc, named, &course)?;
     let text = page(alloc, room, &settings, &course, &end, &names)?;

@@ -55,10 +55,10 @@ returns-in-Text-clause-ok g c =
 
 pub returns-in-Text-clause-err : goal.returns-in-Text-clause-err
 returns-in-Text-clause-err g c =
-    want_blames c.args.options.now.max_lines (g.R.Read.remaining c.args.input.now) c.text_of.result c.text_of.ensures.err
+    pageless_blames c.args.options.now.max_lines (g.R.Read.remaining c.args.input.now) c.text_of.result c.text_of.ensures.err
 
 pub returns-in-Text-clause-settled : goal.returns-in-Text-clause-settled
-returns-in-Text-clause-settled g c = want_settles c.text_of.result c.text_of.ensures.err
+returns-in-Text-clause-settled g c = pageless_settles c.text_of.result c.text_of.ensures.err
 
 pub page_of-requires : goal.page_of-requires
 page_of-requires g c =

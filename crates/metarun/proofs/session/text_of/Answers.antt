@@ -11,11 +11,16 @@ returns-clause-ok g c =
     let tells = told.1 (no_answer asked.addresses asked.detail asked.settings) []
     (subst (λ (text : AnswerTextView). Tells (no_answer asked.addresses asked.detail asked.settings) text [])
     (sym c.new-answers.ensures) (tells_none asked.addresses asked.detail asked.settings)) in
-    let output = c.into_text.ensures ∙ tells.text in
+    let text = c.into_text-text.ensures ∙ tells.text in
+    let adds = c.in_ok-push_names.ensures in
     record {
       answers = told.0;
       own = told.2.own;
       detailed = told.2.detailed;
-      output_is = output;
-      run = run_outputs _ asked _ _ _ _ output told.2.detailed told.2.run;
+      text = _;
+      text_is = text;
+      names = adds.part;
+      unnamed = λ none. adds.none (c.as_slice-2.ensures.value ∙ c.in_ok-named.ensures.none none);
+      output_is = adds.added;
+      run = run_outputs _ asked _ _ _ _ text told.2.detailed told.2.run;
     }
