@@ -1,4 +1,4 @@
-"""The names on a page: what a file says of the loaders of a trace, and files that don't fit.
+"""The names on a page and after full reports: what a file says of the loaders of a trace, and files that don't fit.
 
 The n-th line of the file is that of the n-th `new` line, so each text is worked out here from the two files.
 """
@@ -11,7 +11,7 @@ from elements import root_of, rows_of, text_of
 from examples import content_of
 from scripts import SERVER, NAMES
 
-HTML = ("--format", "html")
+HTML, FULL = ("--format", "html"), ("--report", "full")
 LONGEST = 60
 TRACE = b"new 1 standard\nnew 2 hidden\nalloc 1 1 9\nnew 1 hidden\nunload 2\n# again\n\nnew 2 boot\nnew 7 reflection\nunload 7\n"
 MADE = (1, 2, 1, 2, 7)
@@ -33,11 +33,11 @@ def shortened(name):
     return name if len(name) <= LONGEST else name[:LONGEST - 1] + "…"
 
 
-def page_with(bench, names, options, trace):
+def page_with(bench, names, options, trace, form=HTML):
     with tempfile.NamedTemporaryFile(dir=bench.room) as file:
         file.write(names)
         file.flush()
-        return bench.run([*HTML, *options, "--names", file.name], trace)
+        return bench.run([*form, *options, "--names", file.name], trace)
 
 
 def names_of(root, label):
@@ -51,7 +51,7 @@ def names_are_those_of_the_last_maker(bench):
     ended = page_with(bench, "".join(f"{made} {name}\n" for made, name in zip(MADE, names)).encode(), [], TRACE)
     expect_ended(ended, 0)
     found = names_of(root_of(ended.output), "Loaders")
-    expect(found == {1: "first", 2: names[3]}, "the loaders are called", found)
+    expect(found == {1: "first", 2: names[3].replace("\t", "?")}, "the loaders are called", found)
     expect(b"<b>" not in ended.output and b"gone" not in ended.output, "a name stands as it is")
 
 
@@ -83,6 +83,23 @@ def a_server_has_its_names(bench):
     expect(found == called, "the loaders are called", found, "and not", called)
 
 
+def a_part_ends_the_text(bench):
+    """After the text as it is without names, a line for each `new` line, a refused one too; none for a trace without any."""
+    names = ["first", "second \x01", "refused", "<b>&\"'third\" of x\ty", "é" * 61]
+    file = "".join(f"{made} {name}\n" for made, name in zip(MADE, names)).encode()
+    shown = ["first", "second ?", "refused", "<b>&\"'third\" of x?y", "é" * 59 + "…"]
+    part = "".join(f"{line:>10}{made:>8}  {name}\n" for line, made, name in zip((1, 2, 4, 8, 9), MADE, shown))
+    for workers in ("1", "2"):
+        options = ["--workers", workers]
+        plain = bench.run([*FULL, *options], TRACE + b"report\n")
+        ended = page_with(bench, file, options, TRACE + b"report\n", FULL)
+        expect_ended(ended, 0)
+        wanted = plain.output + b"Names\n      line  loader  name\n" + part.encode()
+        expect(ended.output == wanted, "the text ends with", ended.output[len(plain.output):])
+    ended = page_with(bench, b"", [], b"purge\n", FULL)
+    expect((ended.status, ended.output) == (0, b"1 ok\n"), ended)
+
+
 def no_names_no_column(bench):
     """Without the option, and with a file of no line for a trace that makes no loader, nobody is called anything."""
     plain = page_of(bench, [], TRACE)
@@ -93,10 +110,11 @@ def no_names_no_column(bench):
 
 
 def misfits_are_named(bench):
-    for names, line in MISFITS:
-        ended = page_with(bench, names, [], TRACE)
-        wanted = b"metarun: names line %d: not the next loader of the trace\n" % line
-        expect((ended.status, ended.output, ended.errors) == (5, b"", wanted), names, ended)
+    for form in (HTML, FULL):
+        for names, line in MISFITS:
+            ended = page_with(bench, names, [], TRACE, form)
+            wanted = b"metarun: names line %d: not the next loader of the trace\n" % line
+            expect((ended.status, ended.output, ended.errors) == (5, b"", wanted), names, ended)
 
 
 def unreadable_files_are_told(bench):
@@ -116,6 +134,7 @@ def a_fault_of_the_trace_comes_first(bench):
 def tests():
     yield Test("a page calls each loader as the file of names says of the line that made it", names_are_those_of_the_last_maker)
     yield Test("a page cuts long names", long_names_are_cut)
+    yield Test("names end a text with full reports", a_part_ends_the_text)
     yield Test("a page of a server has its loaders' names", a_server_has_its_names)
     yield Test("a page has no names where no file has any", no_names_no_column)
     yield Test("a file of names that doesn't fit the trace is named by its line", misfits_are_named)
