@@ -27,7 +27,7 @@ CELLS = {"-": "free, not committed", ".": "free, committed", "u": "lent, not com
          "O": "lent as a whole, committed"}
 CLASSES = {"-": "p-free", ".": "p-idle", "u": "p-lent", "o": "p-part", "O": "p-whole"}
 SQUARE = re.compile(r"M(\d+) (\d+)h1v1h-1z")
-MOST_BYTES, MOST_TIME = 400_000, 2
+MOST_BYTES, MOST_TIME = 400_000, 1.3
 ASKING_TAGS = ("script", "link", "img", "image", "iframe", "object", "embed", "base", "form", "a", "use")
 ASKING_ATTRIBUTES = ("src", "href", "style", "action", "data", "ping")
 SERVER_OPTIONS = ("--names", os.path.join(ROOT, NAMES), "--class-nodes", "4")
@@ -324,7 +324,7 @@ def takes_little_longer(bench):
     """A page takes at most so many times the processor time of the full text of the same run."""
     trace = busy() + b"report\n"
     with OneProcessor():
-        least = [min(bench.run(words, trace, seconds=120).seconds for _ in range(7)) for words in (HTML, FULL)]
+        least = [min(bench.run(words, trace, seconds=120).seconds for _ in range(15)) for words in (HTML, FULL)]
     said = f"{least[0]:.3f} s beside {least[1]:.3f} s"
     expect(least[0] <= MOST_TIME * least[1], said)
     return said

@@ -47,12 +47,12 @@ def names_of(root, label):
 
 def names_are_those_of_the_last_maker(bench):
     """A refused `new` names nobody, and a loader that is made anew has its new name."""
-    names = ["first", "second", "refused", "<b>&\"'third\" of x\ty", "gone"]
+    names = ["first", "second", "not made", "<b>&\"'third\" of x\ty", "unloaded.Loader"]
     ended = page_with(bench, "".join(f"{made} {name}\n" for made, name in zip(MADE, names)).encode(), [], TRACE)
     expect_ended(ended, 0)
     found = names_of(root_of(ended.output), "Loaders")
     expect(found == {1: "first", 2: names[3].replace("\t", "?")}, "the loaders are called", found)
-    expect(b"<b>" not in ended.output and b"gone" not in ended.output, "a name stands as it is")
+    expect(b"<b>&" not in ended.output and b"unloaded.Loader" not in ended.output, "a name stands as it is, or of a loader that went")
 
 
 def long_names_are_cut(bench):
