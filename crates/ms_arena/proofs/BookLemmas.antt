@@ -56,7 +56,6 @@ pub may_be_kept : (space : Space) (state : ArenaState) (counted : ℕ) (run : �
     → MayBeKept state.kept run
 may_be_kept space state counted run books awaits = record {
   some = awaits.long;
-  ends = omega (arith, in_use_below space state [] run books.chunks books.sound awaits.used);
   apart = awaits.clear;
 }
 
@@ -185,7 +184,6 @@ pub rest_may : (kept : List (ℕ × ℕ)) (run : ℕ × ℕ) (start words : ℕ)
     → 2 ≤ words → MayBeKept kept (start, words)
 rest_may kept run start words may low high some = record {
   some = some;
-  ends = omega (arith, may.ends, high);
   apart = part_clear run (start, words) kept low high may.apart;
 }
 

@@ -52,7 +52,6 @@ may_retire space state counted (Some at) books was =
       size = bounds.size;
       rest = λ some. subst (λ (t : ℕ). MayBeKept state.kept (at.0.start + t, at.0.front - t)) (sym top) (record {
         some = omega (arith, some, top);
-        ends = omega (arith, bounds.ends, bounds.front, some, top);
         apart = (rest_awaits space state [] at.0 books.chunks its (omega (arith, some, top)) books.sound).clear;
       });
     }

@@ -1,5 +1,5 @@
 -- Runs that lie one behind another, after an addition and a removal, and what follows of them: they
--- are apart, in order, and have fewer than 2 ^ 64 words. Used by the methods of `FreeBlocks`.
+-- are apart, in order, and have fewer than 2 ^ 64 words where they end below that. Used by the methods of `FreeBlocks`.
 use Rattle.std.proofs.Common.{◌≡◌, ℕ, ◌+◌, ◌^◌, ◌≤◌, ◌<◌, Bool, true, false, ◌||◌, cond, List, [], ◌∷◌, Some, None}
 use Rattle.std.proofs.Common.{refl, arith}
 use Rattle.std.specs.List.{AllByRecursion}
@@ -11,7 +11,7 @@ use Rattle.std.proofs.lemmas.Bool.Decides.{nat_tests}
 use Rattle.std.proofs.lemmas.Map.Keys.{IsStrictlyIncreasing-from_sorted}
 use Rattle.ms_base.specs.Interval.{meet, meets_any, are_apart}
 use Rattle.ms_base.specs.Names.{named, with_new, without}
-use Rattle.ms_blocks.specs.FreeBlocks.{LieFrom, AreKept, MayBeKept, words_in}
+use Rattle.ms_blocks.specs.FreeBlocks.{LieFrom, AreKept, EndInWords, MayBeKept, words_in}
 use Rattle.ms_blocks.proofs.KeptEntryLemmas.{words_in-cons, named-with_new}
 
 -- What a comparison says of two starts.
@@ -50,7 +50,7 @@ second_fails false y e = e
 
 -- The lower bound may be lower.
 pub laid_lower : (low least : ℕ) (runs : List (ℕ × ℕ)) → least ≤ low → LieFrom low runs → LieFrom least runs
-laid_lower low least [] h laid = omega arith
+laid_lower low least [] h laid = tt
 laid_lower low least (run ∷ runs) h laid = (omega (arith, laid.0), laid.1, laid.2)
 
 -- What is named lies from the lower bound on.
@@ -84,10 +84,10 @@ apart_is_new low start words (run ∷ runs) laid some apart =
 
 -- A run that meets none keeps them so.
 pub laid_with : (low start words : ℕ) (runs : List (ℕ × ℕ)) → LieFrom low runs → low ≤ start → 2 ≤ words
-    → start + words < 2 ^ 64 → meets_any (start, words) runs ≡ false
+    → meets_any (start, words) runs ≡ false
     → LieFrom low (with_new runs start words)
-laid_with low start words [] laid from some ends apart = (from, some, ends)
-laid_with low start words (run ∷ runs) laid from some ends apart =
+laid_with low start words [] laid from some apart = (from, some, tt)
+laid_with low start words (run ∷ runs) laid from some apart =
     let here = first_fails (meet start words run.0 run.1) (meets_any (start, words) runs) apart in
     let later = second_fails (meet start words run.0 run.1) (meets_any (start, words) runs) apart in
     elim (nat_cmp start run.0) as (λ o. nat_cmp start run.0 ≡ o
@@ -109,7 +109,7 @@ laid_with low start words (run ∷ runs) laid from some ends apart =
         laid.0,
         laid.1,
         laid_with (run.0 + run.1) start words runs laid.2
-            (starts_behind start words run.0 run.1 (compared_greater start run.0 o) some here) some ends later,
+            (starts_behind start words run.0 run.1 (compared_greater start run.0 o) some here) some later,
       )
     ] refl
 
@@ -122,14 +122,12 @@ laid_without low start (run ∷ runs) laid =
       | false ↦ (laid.0, laid.1, laid_without (run.0 + run.1) start runs laid.2)
     ]
 
--- The runs have fewer than 2 ^ 64 words together.
-pub words_fit : (low : ℕ) (runs : List (ℕ × ℕ)) → LieFrom low runs → words_in runs + low < 2 ^ 64
-words_fit low [] laid = omega arith
-words_fit low (run ∷ runs) laid = omega (arith, laid.0, words_in-cons run runs, words_fit (run.0 + run.1) runs laid.2)
-
--- So does the lower bound.
-lowest_fits : (low : ℕ) (runs : List (ℕ × ℕ)) → LieFrom low runs → low < 2 ^ 64
-lowest_fits low runs laid = omega (arith, words_fit low runs laid)
+-- Runs that end below 2 ^ 64 have fewer words together.
+pub words_fit : (low : ℕ) (runs : List (ℕ × ℕ)) → low < 2 ^ 64 → LieFrom low runs → EndInWords runs
+    → words_in runs + low < 2 ^ 64
+words_fit low [] below laid ends = omega (arith, below)
+words_fit low (run ∷ runs) below laid ends =
+    omega (arith, laid.0, words_in-cons run runs, words_fit (run.0 + run.1) runs ends.0 laid.2 ends.1)
 
 -- Nothing meets what ends below the lower bound.
 none_met : (low start words : ℕ) (runs : List (ℕ × ℕ)) → LieFrom low runs → start + words ≤ low
@@ -144,7 +142,7 @@ none_met low start words (run ∷ runs) laid ends =
 -- A run that was added lies apart from the others.
 pub added_may_be_kept : (low start words : ℕ) (runs : List (ℕ × ℕ)) → LieFrom low (with_new runs start words)
     → named runs start ≡ None → MayBeKept runs (start, words)
-added_may_be_kept low start words [] laid new = record { some = laid.1; ends = laid.2; apart = refl }
+added_may_be_kept low start words [] laid new = record { some = laid.1; apart = refl }
 added_may_be_kept low start words (run ∷ runs) laid new =
     elim (nat_cmp start run.0) as (λ o. nat_cmp start run.0 ≡ o
     → LieFrom low (match_ordering o ((start, words) ∷ run ∷ runs) ((
@@ -154,7 +152,6 @@ added_may_be_kept low start words (run ∷ runs) laid new =
     → cond (is_eq o) (Some run.1) (named runs start) ≡ None → MayBeKept (run ∷ runs) (start, words)) [
       | Less ↦ λ o laid new. record {
         some = laid.1;
-        ends = lowest_fits (start + words) (run ∷ runs) laid.2;
         apart = none_met (start + words) start words (run ∷ runs) laid.2 (omega arith);
       }
       | Equal ↦ λ o laid new. absurd (cc)
@@ -168,11 +165,10 @@ added_may_be_kept low start words (run ∷ runs) laid new =
         named_from (run.0 + run.1) start words (with_new runs start words) laid.2 (named-with_new runs start words) in
         record {
           some = may.some;
-          ends = may.ends;
           apart = rw (before_apart start words run.0 run.1 from) may.apart;
         }
 
--- The runs are apart, their starts rise, and their sizes and ends are in range.
+-- The runs are apart, their starts rise, and each has at least two words.
 apart : (low : ℕ) (runs : List (ℕ × ℕ)) → LieFrom low runs → are_apart runs ≡ true
 apart low [] laid = refl
 apart low (run ∷ runs) laid = rw (none_met (run.0 + run.1) run.0 run.1 runs laid.2 (omega arith))
@@ -201,16 +197,10 @@ sizes : (low : ℕ) (runs : List (ℕ × ℕ)) → LieFrom low runs → AllByRec
 sizes low [] laid = tt
 sizes low (run ∷ runs) laid = (laid.1, sizes (run.0 + run.1) runs laid.2)
 
-ends : (low : ℕ) (runs : List (ℕ × ℕ)) → LieFrom low runs
-    → AllByRecursion (λ (run : ℕ × ℕ). run.0 + run.1 < 2 ^ 64) runs
-ends low [] laid = tt
-ends low (run ∷ runs) laid = (lowest_fits (run.0 + run.1) runs laid.2, ends (run.0 + run.1) runs laid.2)
-
 -- What callers know of the kept runs.
 pub laid_are_kept : (low : ℕ) (runs : List (ℕ × ℕ)) → LieFrom low runs → AreKept runs
 laid_are_kept low runs laid = record {
   rising = IsStrictlyIncreasing-from_sorted _ (sorted low runs laid);
   apart = apart low runs laid;
   sizes = sizes low runs laid;
-  ends = ends low runs laid;
 }

@@ -1,6 +1,6 @@
 -- What is kept of free blocks, after an addition and after the removal of the first fit. Used by
 -- `FreeBlocks::add` and `FreeBlocks::remove`.
-use Rattle.std.proofs.Common.{◌≡◌, ℕ, ◌+◌, ◌-◌, ◌^◌, ◌≤◌, ◌<◌, List, Some, None, ap, sym, subst, ◌∙◌, arith}
+use Rattle.std.proofs.Common.{◌≡◌, ℕ, ◌+◌, ◌-◌, ◌^◌, ◌%◌, ◌≤◌, ◌<◌, List, Some, None, ap, sym, subst, ◌∙◌, arith}
 use Rattle.std.proofs.Common.{[], ◌∷◌, refl}
 use Rattle.std.specs.Prelude.{max}
 use Rattle.std.specs.List.{AllByRecursion}
@@ -18,7 +18,7 @@ use Rattle.ms_blocks.proofs.RankLemmas.{length_with, length_without}
 use Rattle.ms_blocks.proofs.KeptEntryLemmas.{sum-with_new}
 use Rattle.ms_blocks.proofs.StartLemmas.{by_start-with_ranked, starts_differ_with, by_start-without_fit}
 use Rattle.ms_blocks.proofs.StartLemmas.{starts_differ_without, fit_splits, new_is_other}
-use Rattle.ms_blocks.proofs.LaidLemmas.{added_may_be_kept, apart_is_new, laid_with, laid_without, words_fit}
+use Rattle.ms_blocks.proofs.LaidLemmas.{added_may_be_kept, apart_is_new, laid_with, laid_without}
 use Rattle.ms_blocks.proofs.BestFitLemmas.{all_too_small, fit_is_best, none_fits}
 
 -- A block that may be kept starts where none does, and its run is one more, with its words.
@@ -37,7 +37,7 @@ laid_runs_with : (blocks : List Block) (block : Block) → LieFrom 0 (by_start b
     → LieFrom 0 (by_start (with_ranked blocks block))
 laid_runs_with blocks block laid may =
     subst (LieFrom 0) (sym (runs_with blocks block laid may))
-    (laid_with 0 block.start block.words (by_start blocks) laid (omega arith) may.some may.ends may.apart)
+    (laid_with 0 block.start block.words (by_start blocks) laid (omega arith) may.some may.apart)
 
 words_with : (blocks : List Block) (block : Block) → LieFrom 0 (by_start blocks)
     → MayBeKept (by_start blocks) (run_of block)
@@ -45,25 +45,15 @@ words_with : (blocks : List Block) (block : Block) → LieFrom 0 (by_start block
 words_with blocks block laid may = ap words_in (runs_with blocks block laid may)
     ∙ sum-with_new (by_start blocks) block.start block.words (is_new blocks block laid may)
 
--- The sum fits with one more.
-total_fits : (blocks : List Block) (count total most : ℕ) (block : Block)
-    → AreTended blocks count total most → MayBeKept (by_start blocks) (run_of block)
-    → total + block.words < 2 ^ 64
-total_fits blocks count total most block tended may =
-    omega (
-      arith,
-      tended.summed,
-      words_with blocks block tended.laid may,
-      words_fit 0 (by_start (with_ranked blocks block)) (laid_runs_with blocks block tended.laid may),
-    )
-
 -- One block more.
 tended_with : (blocks grown : List Block) (count total most : ℕ) (block : Block)
     → AreTended blocks count total most → MayBeKept (by_start blocks) (run_of block)
-    → grown ≡ with_ranked blocks block → AreTended grown (count + 1) (total + block.words) (max most block.words)
+    → grown ≡ with_ranked blocks block
+    → AreTended grown (count + 1) ((total + block.words) % 2 ^ 64) (max most block.words)
 tended_with blocks grown count total most block tended may grows =
     let new = is_new blocks block tended.laid may in
-    subst (λ (blocks : List Block). AreTended blocks (count + 1) (total + block.words) (max most block.words))
+    subst
+    (λ (blocks : List Block). AreTended blocks (count + 1) ((total + block.words) % 2 ^ 64) (max most block.words))
     (sym grows)
     (record {
       ranked = ranked_with blocks block tended.ranked (new_is_other blocks block.start new);
@@ -85,16 +75,18 @@ words_without blocks n found differ e =
 -- One block less.
 tended_without : (blocks rest : List Block) (n : ℕ) (found : Block) (count total most : ℕ)
     → AreTended blocks count total most → first_fit blocks n ≡ Some found
-    → rest ≡ without_fit blocks n → AreTended rest (count - 1) (total - found.words) most
-tended_without blocks rest n found count total most tended e shrinks =
-    subst (λ (blocks : List Block). AreTended blocks (count - 1) (total - found.words) most) (sym shrinks)
+    → rest ≡ without_fit blocks n → found.words < 2 ^ 64
+    → AreTended rest (count - 1) ((total + (2 ^ 64 - found.words)) % 2 ^ 64) most
+tended_without blocks rest n found count total most tended e shrinks below =
+    subst (λ (blocks : List Block). AreTended blocks (count - 1) ((total + (2 ^ 64 - found.words)) % 2 ^ 64) most)
+    (sym shrinks)
     (record {
       ranked = ranked_without blocks n tended.ranked;
       differ = starts_differ_without blocks n found tended.differ e;
       laid = subst (LieFrom 0) (sym (by_start-without_fit blocks n found tended.differ e))
           (laid_without 0 found.start (by_start blocks) tended.laid);
       counted = omega (arith, tended.counted, length_without blocks n found e);
-      summed = omega (arith, tended.summed, words_without blocks n found tended.differ e);
+      summed = omega (arith, tended.summed, words_without blocks n found tended.differ e, below);
       bounded = all_without _ blocks n tended.bounded;
     })
 
@@ -112,8 +104,7 @@ none_kept f n tended over =
 
 -- What an addition makes of the fields.
 pub record Adds {A : Type 0} (f : Inside A) (block : Block) (grown : List Block) : Type 0 where
-  pub sum_fits : f.total + block.words < 2 ^ 64
-  pub tended : AreTended grown (f.count + 1) (f.total + block.words) (max f.most block.words)
+  pub tended : AreTended grown (f.count + 1) ((f.total + block.words) % 2 ^ 64) (max f.most block.words)
   pub runs : by_start grown ≡ with_new (by_start (blocks_in f.store)) block.start block.words
 
 pub adds : {A : Type 0} (f : Inside A) (block : Block) (grown : List Block)
@@ -122,7 +113,6 @@ pub adds : {A : Type 0} (f : Inside A) (block : Block) (grown : List Block)
     → grown ≡ with_ranked (blocks_in f.store) block
     → Adds f block grown
 adds f block grown tended may grows = record {
-  sum_fits = total_fits (blocks_in f.store) f.count f.total f.most block tended may;
   tended = tended_with (blocks_in f.store) grown f.count f.total f.most block tended may grows;
   runs = ap by_start grows ∙ runs_with (blocks_in f.store) block tended.laid may;
 }
@@ -138,8 +128,7 @@ fit_may_be_kept blocks n found differ laid e =
 -- What a removal makes of the fields, with a fit and without one.
 pub record Takes {A : Type 0} (f : Inside A) (words : ℕ) (found : Block) (rest : List Block) : Type 0 where
   pub counted : 1 ≤ f.count
-  pub summed : found.words ≤ f.total
-  pub tended : AreTended rest (f.count - 1) (f.total - found.words) f.most
+  pub tended : AreTended rest (f.count - 1) ((f.total + (2 ^ 64 - found.words)) % 2 ^ 64) f.most
   pub best : IsBestFit (by_start (blocks_in f.store)) words (run_of found)
   pub runs : by_start rest ≡ without (by_start (blocks_in f.store)) found.start
   pub back : MayBeKept (by_start rest) (run_of found)
@@ -147,13 +136,12 @@ pub record Takes {A : Type 0} (f : Inside A) (words : ℕ) (found : Block) (rest
 pub takes : {A : Type 0} (f : Inside A) (words : ℕ) (found : Block) (rest : List Block)
     → AreTended (blocks_in f.store) f.count f.total f.most
     → first_fit (blocks_in f.store) words ≡ Some found
-    → rest ≡ without_fit (blocks_in f.store) words → Takes f words found rest
-takes f words found rest tended e left =
+    → rest ≡ without_fit (blocks_in f.store) words → found.words < 2 ^ 64 → Takes f words found rest
+takes f words found rest tended e left below =
     let blocks = blocks_in f.store in
     record {
       counted = omega (arith, tended.counted, length_without blocks words found e);
-      summed = omega (arith, tended.summed, words_without blocks words found tended.differ e);
-      tended = tended_without blocks rest words found f.count f.total f.most tended e left;
+      tended = tended_without blocks rest words found f.count f.total f.most tended e left below;
       best = fit_is_best blocks words found tended.ranked tended.differ e;
       runs = ap by_start left ∙ by_start-without_fit blocks words found tended.differ e;
       back = subst (λ (blocks : List Block). MayBeKept (by_start blocks) (run_of found)) (sym left)

@@ -33,20 +33,21 @@ pub record IsBestFit (kept : List (ℕ × ℕ)) (words : ℕ) (best : ℕ × ℕ
 abbrev pub NoneFits : List (ℕ × ℕ) → ℕ → Type 0
 NoneFits kept words = AllByRecursion (λ (run : ℕ × ℕ). run.1 < words) kept
 
--- A run may be kept beside the others: it has at least two words, its end is a word number, and it
--- meets none of them.
+-- A run may be kept beside the others: it has at least two words, and meets none of them.
 pub record MayBeKept (kept : List (ℕ × ℕ)) (run : ℕ × ℕ) : Type 0 where
   pub some : 2 ≤ run.1
-  pub ends : run.0 + run.1 < 2 ^ 64
   pub apart : IsFalse (meets_any run kept)
 
 -- What callers know of the kept runs: their starts rise, no two meet, and each has at least two
--- words and an end that is a word number.
+-- words.
 pub record AreKept (kept : List (ℕ × ℕ)) : Type 0 where
   pub rising : AreNamed kept
   pub apart : IsTrue (are_apart kept)
   pub sizes : AllByRecursion (λ (run : ℕ × ℕ). 2 ≤ run.1) kept
-  pub ends : AllByRecursion (λ (run : ℕ × ℕ). run.0 + run.1 < 2 ^ 64) kept
+
+-- Each kept run has an end that is a word number.
+abbrev pub EndInWords : List (ℕ × ℕ) → Type 0
+EndInWords kept = AllByRecursion (λ (run : ℕ × ℕ). run.0 + run.1 < 2 ^ 64) kept
 
 -- Blocks in any order as runs in rising order of start.
 abbrev pub by_start : List Block → List (ℕ × ℕ)
@@ -58,8 +59,7 @@ abbrev pub StartsDiffer : List Block → Type 0
 StartsDiffer [] = Unit {0}
 StartsDiffer (block ∷ blocks) = (named (by_start blocks) block.start ≡ None) × StartsDiffer blocks
 
--- From the word low on the runs lie one behind another, each of at least two words, and end below
--- 2 ^ 64.
+-- From the word low on the runs lie one behind another, each of at least two words.
 abbrev pub LieFrom : ℕ → List (ℕ × ℕ) → Type 0
-LieFrom low [] = low < 2 ^ 64
+LieFrom low [] = Unit {0}
 LieFrom low (run ∷ runs) = (low ≤ run.0) × (2 ≤ run.1) × LieFrom (run.0 + run.1) runs

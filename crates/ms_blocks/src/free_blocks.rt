@@ -7,13 +7,13 @@
 //! rank, they lie apart, the count and the total are theirs, there is the room of the view, and no
 //! block has more words than the bound: so where a larger one is asked for, the store isn't looked
 //! at, as in most allocations.
-ghost use Rattle.std.specs.Prelude.{◌≡◌, ◌+◌, ◌^◌, ◌<◌, ◌≤◌, max, IsFalse, [], length, OnOk, OnErr, IfErr, IsOk};
+ghost use Rattle.std.specs.Prelude.{◌≡◌, ◌+◌, ◌^◌, ◌%◌, ◌<◌, ◌≤◌, max, IsFalse, [], length, OnOk, OnErr, IfErr, IsOk};
 ghost use Rattle.std.specs.Prelude.{IfSome, OnSome, IfNone, vec_len, vec_capacity};
 ghost use Rattle.std.specs.Option.{option_map};
 ghost use Rattle.ms_base.specs.Interval.{meets_any};
 ghost use Rattle.ms_base.specs.Names.{with_new, without};
 ghost use Rattle.ms_base.specs.Place.{best_fit};
-ghost use Rattle.ms_blocks.specs.FreeBlocks.{KeptBlocks, AreKept, MayBeKept, IsBestFit, NoneFits, run_of, words_in};
+ghost use Rattle.ms_blocks.specs.FreeBlocks.{KeptBlocks, AreKept, EndInWords, MayBeKept, IsBestFit, NoneFits, run_of, words_in};
 
 use crate::store::{Store, insert, make_room, take};
 use ms_base::{Block, Refusal};
@@ -30,7 +30,7 @@ pub struct FreeBlocks<A: Allocator = Global> {
     room: usize,
     /// How many there are.
     count: usize,
-    /// How many words they have together, below 2 ^ 64.
+    /// How many words they have together, modulo 2 ^ 64.
     total: u64,
     /// None of them has more words; one may have had so many.
     most: u64,
@@ -76,12 +76,11 @@ impl<A: Allocator> FreeBlocks<A> {
         }
     }
 
-    /// Keeps one block more, of at least two words, in room that there is. It meets no free block,
-    /// and its end is a word number too. Takes no memory.
+    /// Keeps one block more, of at least two words, in room that there is. It meets no free block.
+    /// Takes no memory.
     pub fn add(&mut self, block: Block)
         requires room { 0 < self.old.room }
         requires words { 2 ≤ block.words }
-        requires ends { block.start + block.words < 2 ^ 64 }
         requires apart { IsFalse (meets_any (run_of block) self.old.kept) }
         ensures kept { self.new.kept ≡ with_new self.old.kept block.start block.words }
         ensures room { self.new.room + 1 ≡ self.old.room }
@@ -89,7 +88,7 @@ impl<A: Allocator> FreeBlocks<A> {
         insert(&mut self.store, block);
         self.room -= 1;
         self.count += 1;
-        self.total += block.words;
+        self.total = self.total.wrapping_add(block.words);
         self.most = self.most.max(block.words);
     }
 
@@ -116,14 +115,16 @@ impl<A: Allocator> FreeBlocks<A> {
         };
         self.room += 1;
         self.count -= 1;
-        self.total -= block.words;
+        self.total = self.total.wrapping_sub(block.words);
         Some(block)
     }
 
-    /// Returns how many words the free blocks have together, below 2 ^ 64. They lie apart, and each
-    /// has at least two words.
+    /// Returns how many words the free blocks have together: exactly where each ends at a word
+    /// number below 2 ^ 64, as in every arena, and else modulo 2 ^ 64. They lie apart, and each has
+    /// at least two words.
     pub fn total(&self) -> u64
-        ensures sum { result ≡ words_in self.now.kept }
+        ensures sum { result ≡ words_in self.now.kept % 2 ^ 64 }
+        ensures exact { EndInWords self.now.kept → result ≡ words_in self.now.kept }
         ensures apart { AreKept self.now.kept }
     {
         self.total

@@ -11,7 +11,7 @@
 //! that is large enough. A row is halved to find it. Of more blocks than 32, those of fewer than 32
 //! words are in a tree for each size and larger ones in trees for a range of sizes each, a bit
 //! says which trees have any, and a path down one or two of them finds it. Kept true: no two
-//! blocks meet, each has at least two words, and none ends past 2 ^ 64 - 1. Stands on `ms_base`.
+//! blocks meet, and each has at least two words. Stands on `ms_base`.
 //! Only `FreeBlocks::reserve` takes memory, and nothing waits. Apart because an arena is proved
 //! over the list of its free blocks alone, whatever form the blocks have here. Best fit is this
 //! project's choice; HotSpot's freeBlocks.hpp keeps small blocks in lists by size and large ones in

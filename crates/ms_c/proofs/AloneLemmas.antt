@@ -19,7 +19,8 @@ use Rattle.ms_base.specs.Transition.{with_allocated, zeroed}
 use Rattle.ms_arena.specs.Arena.{ArenaView, PlaceRefused, IsAskable, block_at}
 use Rattle.ms_arena.specs.Alloc.{TakesNew, AfterTake, AfterGrow, AsksChunk, FindsPlace, Allocates}
 use Rattle.ms_loaders.specs.Loader.{LoaderView, AllocatesBlock, NameRefused, with_state}
-use Rattle.ms_c.specs.Member.{AnswersAlone, PlacesIn, takes_none, grows_none, alone_told}
+use Rattle.ms_pool.specs.NoChunks.{takes_none, grows_none}
+use Rattle.ms_c.specs.Member.{AnswersAlone, PlacesIn, alone_told}
 
 -- A chunk was asked for in vain.
 abbrev in_vain : Result Block Refusal → Type 0

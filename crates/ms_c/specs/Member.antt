@@ -1,13 +1,12 @@
 -- A seat of a shared pool with the class loader that it serves, as contracts see it, and what each
 -- of its calls does.
 use Rattle.std.specs.Prelude.{◌≡◌, ◌≢◌, ℕ, ◌+◌, ◌<◌, ◌⊎◌, List, [], ◌∷◌, ◌++◌, Option, Some, None, Result, Ok}
-use Rattle.std.specs.Prelude.{Err, OnErr, OnOk, Bool, map}
+use Rattle.std.specs.Prelude.{Err, OnErr, Bool, map}
 use Rattle.std.specs.List.{All, range_with_len}
 use Rattle.ms_base.specs.declared.kind.Kind.{Kind}
 use Rattle.ms_base.specs.declared.kind.Space.{Space}
 use Rattle.ms_base.specs.declared.kind.Space.TheVariants.{NonClass, Class}
 use Rattle.ms_base.specs.declared.span.Block.{Block}
-use Rattle.ms_base.specs.declared.span.Span.{Span}
 use Rattle.ms_base.specs.declared.refusal.Refusal.{Refusal}
 use Rattle.ms_base.specs.declared.refusal.Refusal.TheVariants.{NoLoader, LoaderExists, ReserveLimit}
 use Rattle.ms_base.specs.declared.step.Reply.{Reply}
@@ -253,13 +252,6 @@ pub record IsFirstOf (seats : List SeatState) (now : MemberState) : Type 0 where
   pub spare : List SeatState
   pub all : seats ≡ spare ++ seat ∷ []
   pub now_is : now ≡ free_seat seat spare
-
--- What a source without chunks answers: no chunk is lent, and none grows.
-abbrev pub takes_none : {S : Type 0} → S → AccountState → ℕ → ℕ → ℕ → Result Span Refusal → S → Type 0
-takes_none old account wanted most words answer new = answer ≡ Err (ReserveLimit 0 0)
-
-abbrev pub grows_none : {S : Type 0} → S → AccountState → ℕ → ℕ → Bool → Result Span Refusal → S → Type 0
-grows_none old account start total may_enlarge answer new = OnOk answer ⊥
 
 -- What is told of a loader's answer without the pool.
 abbrev pub alone_told : Result Block Refusal → Option Reply

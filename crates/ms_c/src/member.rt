@@ -16,7 +16,6 @@ ghost use Rattle.ms_c.specs.Member.{FindsRun};
 
 mod arenas;
 mod loading;
-mod place;
 mod sharing;
 mod taking;
 

@@ -2,16 +2,12 @@
 //!
 //!     loader  kind      since line  until now    chunks  capacity ..  used and live of it  growth
 //!         12  standard       1,204    [  ####]        9  1.1 MB      [######==--]         +64.0 KB
-ghost use Rattle.std.specs.Prelude.{◌≡◌, ◌++◌, ◌⊎◌, OnOk, string_bytes};
-ghost use Rattle.ms_page.specs.Escape.{escaped};
-
 use crate::numbers::narrow;
 use crate::replay::Replay;
 use crate::writer::Writer;
 use ms_base::Kind;
-use ms_page::{Growth, Holding, KindHolding, push_escaped, scaled};
-use std::alloc::{AllocError, Global};
-use std::str::from_utf8;
+use ms_page::{Growth, Holding, KindHolding, scaled};
+use std::alloc::Global;
 
 /// The units of a bar of what loaders hold.
 const BAR: u64 = 160;
@@ -307,18 +303,4 @@ fn push_life(page: &mut Writer, position: u64, lines: u64) {
         .text(" 0H512V8H")
         .digits(birth)
         .text(r#"Z"/></svg></td>"#);
-}
-
-/// Appends a name as escaped text: of the name itself nothing else ever stands in the page.
-pub(crate) fn push_name(alloc: Global, text: &mut String, name: &str) -> Result<(), AllocError>
-    ensures { OnOk result ((string_bytes text.new ≡ string_bytes text.old ++ escaped name.now)
-        ⊎ (string_bytes text.new ≡ string_bytes text.old)) }
-{
-    let mut bytes = Vec::new(alloc);
-    push_escaped(&mut bytes, name)?;
-    match from_utf8(bytes.as_slice()) {
-        Ok(escaped) => text.push_str(escaped),
-        // What stands for a byte of UTF-8 is that byte or ASCII, so this can't come.
-        Err(_) => Ok(()),
-    }
 }

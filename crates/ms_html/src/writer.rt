@@ -4,7 +4,7 @@
 //!
 //! Kept true: from the first growth that is refused on nothing is appended, and the answer of the
 //! end tells it. So a template is a chain of parts, and one place asks. Memory is the text's.
-use crate::loaders::push_name;
+use ms_page::push_name;
 use std::alloc::{AllocError, Global};
 
 /// A text that is being written.

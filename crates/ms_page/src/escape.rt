@@ -1,8 +1,25 @@
 //! Texts of the input between tags.
-ghost use Rattle.std.specs.Prelude.{◌≡◌, ◌++◌, OnOk};
+ghost use Rattle.std.specs.Prelude.{◌≡◌, ◌++◌, ◌⊎◌, OnOk, string_bytes};
 ghost use Rattle.ms_page.specs.Escape.{escaped, entity};
 
-use std::alloc::AllocError;
+use std::alloc::{AllocError, Global};
+use std::str::from_utf8;
+
+/// Appends a name to a page as escaped text: nothing else of the name ever stands in the page. The
+/// escaped bytes are in memory of the allocator before they are appended, and an error means that a
+/// growth was refused.
+pub fn push_name(alloc: Global, text: &mut String, name: &str) -> Result<(), AllocError>
+    ensures { OnOk result ((string_bytes text.new ≡ string_bytes text.old ++ escaped name.now)
+        ⊎ (string_bytes text.new ≡ string_bytes text.old)) }
+{
+    let mut bytes = Vec::new(alloc);
+    push_escaped(&mut bytes, name)?;
+    match from_utf8(bytes.as_slice()) {
+        Ok(escaped) => text.push_str(escaped),
+        // What stands for a byte of UTF-8 is that byte or ASCII, so this can't come.
+        Err(_) => Ok(()),
+    }
+}
 
 /// Appends a text of the input to a page's bytes, with a reference in place of each byte that
 /// begins or ends something in HTML: of `<`, `>`, `&` and `"`. Takes memory.

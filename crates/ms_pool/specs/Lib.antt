@@ -14,3 +14,4 @@ pub mod Placing
 pub mod LimitCounts
 pub mod Owners
 pub mod Mapping
+pub mod NoChunks

@@ -14,6 +14,7 @@ mod lender;
 mod lending;
 mod lent;
 mod mapping;
+mod no_chunks;
 mod pool;
 mod search;
 mod source;
@@ -23,6 +24,7 @@ mod trees;
 
 pub use account::Account;
 pub use mapping::{Place, RootMap};
+pub use no_chunks::NoChunks;
 pub use pool::{LimitCounts, Pool};
 pub use source::{AccountSource, ChunkSource};
 pub use totals::PoolTotals;

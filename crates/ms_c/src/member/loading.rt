@@ -13,10 +13,9 @@ ghost use Rattle.ms_c.specs.Member.{OpensLoader, AnswersAlone, AnswersWithout, A
 ghost use Rattle.ms_c.specs.Member.{ServesIt, LacksPool, Purges, alone_told, block_told};
 
 use super::Member;
-use super::place::NoChunks;
 use ms_base::{Block, Kind, Refusal, Reply, Space};
 use ms_loaders::Loader;
-use ms_pool::AccountSource;
+use ms_pool::{AccountSource, NoChunks};
 use ms_shared::{HeldSeat, SharedPool};
 use std::alloc::Global;
 

@@ -11,7 +11,6 @@ pub invariant_of-self : goal.invariant_of-self
 invariant_of-self c = rw c.push_reserved.ensures.items (record {
   may = may_push c.self.inside.ordered.kept c.self.inside.came.items (run_of c.args.block) c.self.invariant.may (record {
     some = c.requires.words;
-    ends = omega (arith, c.requires.small);
     apart = subst (λ (kept : KeptView). meets_any (run_of c.args.block) kept.kept ≡ false) (sym c.self.view_is)
         c.requires.apart;
   });

@@ -1,4 +1,4 @@
-use Rattle.std.proofs.Common.{◌≡◌, ◌+◌, ◌-◌, ◌^◌, ◌<◌, ◌≤◌, false, ap, subst, sym, arith}
+use Rattle.std.proofs.Common.{◌≡◌, ◌+◌, ◌-◌, ◌≤◌, false, ap, subst, sym, arith}
 use Rattle.ms_base.specs.declared.span.Block.{Block}
 use Rattle.ms_base.specs.Interval.{meets_any}
 use Rattle.ms_blocks.specs.FreeBlocks.{KeptBlocks, MayBeKept, run_of, by_start}
@@ -12,11 +12,10 @@ use Rattle.ms_blocks.proofs.free_blocks.FreeBlocks.add.Goals.{After-insert}
 
 -- What is asked of the block, said of the fields.
 may : {A : Type 0} (f : Inside A) (now : KeptBlocks) (block : Block) → kept_blocks f ≡ now → 2 ≤ block.words
-    → block.start + block.words < 2 ^ 64 → meets_any (run_of block) now.kept ≡ false
+    → meets_any (run_of block) now.kept ≡ false
     → MayBeKept (by_start (blocks_in f.store)) (run_of block)
-may f now block seen some ends apart = record {
+may f now block seen some apart = record {
   some = some;
-  ends = ends;
   apart = subst (λ (blocks : KeptBlocks). meets_any (run_of block) blocks.kept ≡ false) (sym seen) apart;
 }
 
@@ -24,11 +23,8 @@ may f now block seen some ends apart = record {
 added : (g : Over) (c : After-insert g) → Adds c.self.inside c.args.block (blocks_in c.insert.new.store)
 added g c =
     let asked = may c.self.inside c.args.self.now c.args.block c.self.view_is
-    c.requires.words c.requires.ends c.requires.apart in
+    c.requires.words c.requires.apart in
     adds c.self.inside c.args.block (blocks_in c.insert.new.store) c.self.invariant.blocks asked c.insert.ensures.blocks
-
-pub overflow_add-self-2 : goal.overflow_add-self-2
-overflow_add-self-2 g c = omega (arith, (added g (goal.at.overflow_add-self-2 g c).After-insert).sum_fits)
 
 pub invariant_of-self : goal.invariant_of-self
 invariant_of-self g c =

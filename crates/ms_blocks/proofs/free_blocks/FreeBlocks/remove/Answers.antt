@@ -17,7 +17,7 @@ missed g c =
 taken : (g : Over) (c : In-Some g) → Takes c.self.inside c.args.words c.in-Some.block (blocks_in c.take.new.store)
 taken g c =
     takes c.self.inside c.args.words c.in-Some.block (blocks_in c.take.new.store) c.self.invariant.blocks
-    c.in-Some.ensures.found c.in-Some.ensures.left
+    c.in-Some.ensures.found c.in-Some.ensures.left (omega arith)
 
 pub invariant_of-self : goal.invariant_of-self
 invariant_of-self g c = record {
@@ -36,9 +36,6 @@ returns-in_default-clause-unchanged g c =
     ap (λ (blocks : List Block). let seen : KeptBlocks =
     record { kept = by_start blocks; room = c.self.inside.room } in seen)
     (sym (missed g (goal.at.returns-in_default-clause-unchanged g c).In_default).same) ∙ c.self.view_is
-
-pub overflow_sub-self-2 : goal.overflow_sub-self-2
-overflow_sub-self-2 g c = (taken g (goal.at.overflow_sub-self-2 g c).In-Some).summed
 
 pub invariant_of-self-2 : goal.invariant_of-self-2
 invariant_of-self-2 g c =

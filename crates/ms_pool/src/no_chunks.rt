@@ -1,18 +1,27 @@
-//! A source without chunks: over it a block is placed just where the loader needs no further chunk,
-//! and no lock is tried.
-use ms_base::{Level, Refusal, Space, Span};
-use ms_pool::{Account, ChunkSource, PoolTotals};
+//! A source without chunks: over it a block is had exactly where an arena, or a loader, has room for
+//! it in the chunks that it holds. So a caller that doesn't have the pool gets such blocks at once.
+ghost use Rattle.std.specs.Prelude.{◌≡◌};
 
-/// A source without chunks, which counts the accounts that are open in each space.
+use crate::account::Account;
+use crate::source::ChunkSource;
+use crate::totals::PoolTotals;
+use ms_base::{Level, Refusal, Space, Span};
+
+/// A source that lends no chunk and lets none grow, and counts the accounts that are open in each
+/// space. It takes no memory. This project's choice.
 #[derive(Drop)]
 pub struct NoChunks {
-    opened: u64,
-    class_opened: u64,
+    /// How many accounts of the non-class space are open.
+    pub opened: u64,
+    /// How many accounts of the class space are open.
+    pub class_opened: u64,
 }
 
 impl NoChunks {
-    /// Makes one that counts an account in each space.
-    pub fn one() -> NoChunks {
+    /// Makes a source that counts one open account in each space.
+    pub fn one() -> NoChunks
+        ensures { result ≡ record { opened = 1; class_opened = 1 } }
+    {
         NoChunks {
             opened: 1,
             class_opened: 1,
@@ -23,7 +32,7 @@ impl NoChunks {
 impl ChunkSource for NoChunks {
     ghost use Rattle.ms_base.specs.Spaces.{by_space};
     ghost use Rattle.ms_base.specs.declared.policy.Policy.TheVariants.{Balanced};
-    ghost use Rattle.ms_c.specs.Member.{takes_none, grows_none};
+    ghost use Rattle.ms_pool.specs.NoChunks.{takes_none, grows_none};
 
     ghost serves = { λ _ _. Unit {0} };
 
