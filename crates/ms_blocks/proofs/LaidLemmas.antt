@@ -1,5 +1,6 @@
 -- Runs that lie one behind another, after an addition and a removal, and what follows of them: they
--- are apart, in order, and have fewer than 2 ^ 64 words where they end below that. Used by the methods of `FreeBlocks`.
+-- are apart, in order, and have fewer than 2 ^ 64 words where they end below that. Used by the
+-- methods of `FreeBlocks`.
 use Rattle.std.proofs.Common.{◌≡◌, ℕ, ◌+◌, ◌^◌, ◌≤◌, ◌<◌, Bool, true, false, ◌||◌, cond, List, [], ◌∷◌, Some, None}
 use Rattle.std.proofs.Common.{refl, arith}
 use Rattle.std.specs.List.{AllByRecursion}
