@@ -11,6 +11,8 @@ from claims import Test, Wrong, expect
 
 ROOT = os.path.dirname(os.path.dirname(os.path.abspath(__file__)))
 STYLE = "docs/STYLE.md"
+# The crates that have handles: C's, and those of threads.
+WITH_HANDLES = ("crates/ms_c/", "crates/ms_run/")
 # What begins a comment, by the end of a file's name.
 MARKS = {".rt": "//", ".antt": "--"}
 TEXT = re.compile(r'"(?:[^"\\]|\\.)*"')
@@ -51,7 +53,7 @@ def unused():
 
 
 def names_are_used_ones(_):
-    """No source, spec or proof gives a thing a name that STYLE says isn't used; a handle is the C library's alone."""
+    """No source, spec or proof gives a thing a name that STYLE says isn't used."""
     whole, starts, ends = unused()
     expect("ctx" in whole and starts and ends, "the names of STYLE weren't read", whole, starts, ends)
     wrong = []
@@ -59,9 +61,8 @@ def names_are_used_ones(_):
         for number, line in lines_of(path):
             for found in DECLARED.findall(line.split(MARKS[os.path.splitext(path)[1]])[0]):
                 name = found[0] or found[1]
-                if name == "handle" and path.startswith("crates/ms_c/"):
-                    continue
-                if name in whole or name.startswith(tuple(starts)) or name.endswith(tuple(ends)):
+                is_used = name == "handle" and path.startswith(WITH_HANDLES)
+                if not is_used and (name in whole or name.startswith(tuple(starts)) or name.endswith(tuple(ends))):
                     wrong.append(f"{path}:{number}: {name}")
     expect(not wrong, *wrong[:20])
     return f"{len(whole) + len(starts) + len(ends)} names aren't used"
