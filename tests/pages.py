@@ -1,4 +1,5 @@
-"""The pages: links and anchors, the lines of functions and clauses, examples, README's commands, and the words of each.
+"""The pages: links and anchors, the lines of functions and clauses, which of them run, examples, README's commands, and
+the words of each.
 
 `python3 tests/pages.py` holds all but the commands, which need the built program; `python3 tests/pages.py --lines` sets
 the lines that docs/PROMISES.md links to, after an edit of a source.
@@ -186,6 +187,73 @@ def promises_lead_to_their_lines(_):
     return f"{len(rows)} promises"
 
 
+# The crates that no program and no library is made of.
+NO_PROGRAM = ("calls", "demo", "library_tests")
+FUNCTION = re.compile(r"( *)(?:pub(?:\([^)]*\))? )?(?:const )?(?:unsafe )?(extern \"C\" )?fn (\w+)")
+OWNER = re.compile(r"(?:pub )?(?:unsafe )?(?:impl|trait)\b(?:<.*?>)? (?:(\w+).*? for )?(\w+)")
+CALL = re.compile(r"(?:\b(\w+)(?:::<[^>]*>)?::|(\.))?\b([a-z_]\w*)(?:::<[^>]*>)?(?=\()")
+IMPORT = re.compile(r"^ *(?:pub(?:\(\w+\))? )?use (?:[^;{]*\{([^;]*)\}|[^;{]*?(\w+));", re.MULTILINE)
+
+
+def functions_in(path):
+    """The functions of a source: each with its line, its types, its name, its body, and whether C may call it."""
+    owners, lines = (), [line.split("//")[0] for line in lines_of(path)]
+    for at, line in enumerate(lines):
+        if found := OWNER.match(line):
+            owners = tuple(name for name in found.groups() if name)
+        elif line.startswith("}"):
+            owners = ()
+        if found := FUNCTION.match(line):
+            indent, exported, name = found.groups()
+            end = next((k for k in range(at, len(lines)) if lines[k].startswith(f"{indent}}}")), at)
+            start = next((k for k in range(at, end) if lines[k] == f"{indent}{{"), at)
+            yield at + 1, owners if indent else (), name, "\n".join(lines[start + 1:end]), bool(exported)
+
+
+@functools.cache
+def functions_run():
+    """The path and line of each function that `metarun`, `metalog` or the library for C may call, by names."""
+    every, named, todo = [], {}, []
+    for path in sorted(os.path.relpath(os.path.join(folder, name), ROOT)
+                       for crate in os.listdir(os.path.join(ROOT, "crates")) if crate not in NO_PROGRAM
+                       for folder, _, files in os.walk(os.path.join(ROOT, "crates", crate, "src")) for name in files):
+        known = set(re.findall(r"\w+", " ".join(several or one for several, one in IMPORT.findall(read(path)))))
+        for line, owners, name, body, exported in functions_in(path):
+            every.append((path, line, owners, name, body, known))
+            named.setdefault(name, []).append(len(every) - 1)
+            if exported or (name == "main" and not owners):
+                todo.append(len(every) - 1)
+    seen = set(todo)
+    while todo:
+        path, _, owners, _, body, known = every[todo.pop()]
+        for kind, dot, name in CALL.findall(body):
+            for other in named.get(name, ()):
+                its, free = every[other][2], not every[other][2]
+                here = every[other][0] == path or name in known
+                if other not in seen and ((dot and its) or (kind == "Self" and set(its) & set(owners)) or kind in its
+                                          or (free and not dot and (here or kind[:1].islower()))):
+                    seen.add(other)
+                    todo.append(other)
+    declared = {other for number in seen for other in named[every[number][3]]
+                if every[other][2] and set(every[other][2]) < set(every[number][2])}
+    return {every[number][:2] for number in seen | declared}
+
+
+def promises_are_run(_):
+    """Each promise without a dagger leads first to a function that a program or the library for C may call."""
+    wrong, count = [], 0
+    for number, cells in rows_of(read(PROMISES)):
+        found = re.search(r"\[`(?!impl)[^`\]]*`\]\(\.\./([^)#]+)#L(\d+)\)", cells[1])
+        path, line = (found.group(1), int(found.group(2))) if found else ("", 0)
+        is_function = found and re.search(r"\bfn \w", lines_of(path)[line - 1])
+        if is_function and "†" not in cells[0] and not path.endswith("laws.rt"):
+            count += 1
+            if (path, line) not in functions_run():
+                wrong.append(f"line {number}: {found.group(0).split(']')[0][1:]}")
+    expect(not wrong, "no program calls what these lead with, and they have no dagger:", *wrong)
+    return f"{count} functions"
+
+
 def edits_are_named(_):
     """Each wrong body stands in a row of the promises, and each name there is of one."""
     crates = os.path.join(ROOT, "crates")
@@ -262,6 +330,7 @@ def is_run(bench, command):
 def tests():
     yield Test("pages: links and anchors resolve", links_resolve)
     yield Test("pages: promises lead to the lines of their clauses", promises_lead_to_their_lines)
+    yield Test("pages: promises lead to functions that programs run", promises_are_run)
     yield Test("pages: each wrong body stands in a row of the promises", edits_are_named)
     yield Test("pages: examples are the lines of their files", examples_are_their_files)
     yield Test("pages: words are bounded", words_are_bounded)

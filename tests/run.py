@@ -21,7 +21,7 @@ from workbench import Workbench, build
 from claims import Skipped, Wrong
 
 SUBJECTS = ("hostile", "growths", "limits", "peaks", "devices", "texts", "faults", "options", "examples", "rows", "schedules",
-            "orders", "scripts", "release", "metalog", "jvm", "calls", "library", "twin", "pages", "lengths", "forms", "browser",
+            "orders", "scripts", "release", "metalog", "jvm", "calls", "library", "twin", "pages", "words", "lengths", "forms", "browser",
             "naming")
 PASSED, FAILED, SKIPPED = "ok", "FAILED", "skipped"
 GROWTHS = re.compile(r"\b(\d+) growths\b")

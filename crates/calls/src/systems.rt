@@ -166,7 +166,7 @@ fn run_told(rt: &HostRuntime, answer: Result<Vec<Reply>, AllocError>) -> Answer 
     }
 }
 
-/// Prints the sums that were to be told.
+/// Prints the sums that were asked for.
 fn totals_told(rt: &HostRuntime, answer: Result<Totals, AllocError>) -> Answer {
     match answer {
         Ok(totals) => {
@@ -178,7 +178,7 @@ fn totals_told(rt: &HostRuntime, answer: Result<Totals, AllocError>) -> Answer {
     }
 }
 
-/// Prints the details that were to be told.
+/// Prints the details that were asked for.
 fn details_told(rt: &HostRuntime, answer: Result<Details, AllocError>) -> Answer {
     match answer {
         Ok(details) => {
@@ -190,7 +190,7 @@ fn details_told(rt: &HostRuntime, answer: Result<Details, AllocError>) -> Answer
     }
 }
 
-/// Prints the maps that were to be told.
+/// Prints the maps that were asked for.
 pub(crate) fn maps_told(rt: &HostRuntime, answer: Result<Vec<RootMap>, AllocError>) -> Answer {
     match answer {
         Ok(maps) => gave(rt, &maps),

@@ -35,7 +35,7 @@ fn work(alloc: Global, pool: &mut Pool) -> Result<(u64, u64, PoolTotals), Refusa
     told
 }
 
-/// Fills an arena; tells where its second block lies, the word that was written into it, and the
+/// Fills an arena; returns where its second block lies, the word that was written into it, and the
 /// sums over the pool then.
 fn fill(pool: &mut Pool, arena: &mut Arena) -> Result<(u64, u64, PoolTotals), Refusal>
     requires { Serves pool.old (account_of arena.old) }

@@ -3,7 +3,7 @@ use ms_base::{Kind, Settings, Step};
 use ms_loaders::System;
 use std::io;
 
-/// Steps a system, and tells its replies.
+/// Steps a system, and prints its replies.
 pub(crate) fn show(rt: &HostRuntime) -> io::Result<()> {
     let mut system = System::new(rt.alloc(), Settings::DEFAULT)?;
     let told = step(rt, &mut system);

@@ -120,7 +120,7 @@ fn told_again(some: u64, class: usize, is_empty: bool) -> u64
     if is_empty { some & !(1 << class) } else { some }
 }
 
-/// Tells in which tree blocks of so many words are.
+/// Returns in which tree blocks of so many words are.
 fn class_of(words: u64) -> usize
     ensures class { result ≡ class_of words }
     ensures within { result < 64 }

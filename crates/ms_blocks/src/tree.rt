@@ -76,7 +76,7 @@ impl<A: Allocator> Fork<A> {
     }
 }
 
-/// Adds the spare fork's block to those of a ranked tree. Tells whether the tree is higher then.
+/// Adds the spare fork's block to those of a ranked tree. Returns whether the tree is higher then.
 pub fn insert<A: Allocator>(tree: &mut Tree<A>, spare: Box<Fork<A>, A>) -> bool
     ensures { IsRanked (blocks_of tree.old) →
         blocks_of tree.new ≡ with_ranked (blocks_of tree.old) spare.value.block }
@@ -424,7 +424,7 @@ fn height_of<A: Allocator>(tree: &Tree<A>) -> u8 {
     }
 }
 
-/// Tells anew how high a fork is.
+/// Notes anew how high a fork is.
 fn tell_height<A: Allocator>(fork: &mut Fork<A>)
     ensures { blocks_at fork.new ≡ blocks_at fork.old }
 {

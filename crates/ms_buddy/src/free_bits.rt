@@ -134,8 +134,8 @@ impl FreeBits {
     }
 
     /// Merges the part of a level that starts at an offset with its buddy for as long as that is
-    /// free, so that the part that results is a free leaf and the buddies are none any more. Tells
-    /// its level: it is the root, or its buddy isn't free.
+    /// free, so that the part that results is a free leaf and the buddies are none any more.
+    /// Returns its level: it is the root, or its buddy isn't free.
     pub(crate) fn merge(&mut self, lent: u8, at: u64) -> u8
         requires low { lent ≤ 12 }
         requires in_root { at < ROOT_WORDS }

@@ -299,7 +299,7 @@ fn enlarge_in_half<A: Allocator>(
     }
 }
 
-/// Tells who holds the leaf of that span, where it is the lower half and the upper one is free.
+/// Returns who holds the leaf of that span, where it is the lower half and the upper one is free.
 fn merged_leader<A: Allocator>(
     lower: &Node<A>,
     upper: &Node<A>,

@@ -35,7 +35,7 @@ pub trait AnswerSink {
     ghost took: { Self → Self → List AnswerOf → Type 0 };
 
     /// Takes one answer more, after those that it was given before. An error means that a growth
-    /// was refused; what the sink has then is not told. Takes memory.
+    /// was refused; what the sink has then is left open. Takes memory.
     fn put(&mut self, answer: Answer) -> Result<(), AllocError>
         ensures { OnOk result ((first : Self) (before : List AnswerOf) → took first self.old before
             → took first self.new (before ++ answer ∷ [])) };

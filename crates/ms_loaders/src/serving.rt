@@ -114,7 +114,7 @@ fn make_block<S: AccountSource>(
     }
 }
 
-/// Allocates a block of zeros in a space: for a step, and for a call that tells of granules too.
+/// Allocates a block of zeros in a space: for a step, and for a call that returns granules too.
 pub(crate) fn allocate<S: AccountSource>(
     source: &mut S,
     loaders: &mut Loaders,

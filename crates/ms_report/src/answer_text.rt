@@ -57,8 +57,8 @@ impl Model for AnswerText {
 
 impl AnswerText {
     /// Makes the text of no answer, in the room of a text that is done with, which is emptied.
-    /// Where a block starts, a word number, is told only if addresses are asked for, and reports
-    /// are told with as much detail as is asked for; the settings are those of the run. Takes no
+    /// Where a block starts, a word number, is written only if addresses are asked for, and reports
+    /// have as much detail as is asked for; the settings are those of the run. Takes no
     /// memory yet.
     pub fn new(mut room: String, addresses: bool, detail: Detail, settings: Settings) -> AnswerText
         ensures { result ≡ no_answer addresses detail settings }
@@ -124,7 +124,7 @@ impl AnswerSink for AnswerText {
 }
 
 /// Writes a line for each answer, in their order: the number of the trace's line, a space, the
-/// reply. Where a block starts, a word number, is told only if addresses are asked for. After an
+/// reply. Where a block starts, a word number, is written only if addresses are asked for. After an
 /// answer with totals comes their basic report, which no setting changes. Takes memory for the
 /// text; an error means that a growth was refused. This project's choice.
 pub fn lines(alloc: Global, replies: &Replies, addresses: bool) -> Result<String, AllocError>

@@ -99,7 +99,7 @@ fn push_full(
     Ok(())
 }
 
-/// Appends the maps of roots, where they are told.
+/// Appends the maps of roots, where there are any.
 fn push_roots(text: &mut String, totals: &Totals) -> Result<(), AllocError>
     ensures { OnOk result (string_bytes text.new
         ≡ string_bytes text.old ++ maps_part (told_in totals.now)) }
@@ -110,7 +110,7 @@ fn push_roots(text: &mut String, totals: &Totals) -> Result<(), AllocError>
     }
 }
 
-/// Appends what the loaders hold, where it is told.
+/// Appends what the loaders hold, where it was asked for.
 fn push_details(text: &mut String, totals: &Totals) -> Result<(), AllocError>
     ensures { OnOk result (string_bytes text.new
         ≡ string_bytes text.old ++ details_part (told_in totals.now)) }

@@ -19,7 +19,7 @@ use std::alloc::AllocError;
 /// The title and the headings of the peaks.
 const HEADINGS: &str = "Peaks\n                    number        size\n";
 
-/// Appends the peaks, where they are told.
+/// Appends the peaks, where they were kept.
 pub(crate) fn push_peaks(
     text: &mut String,
     settings: &Settings,

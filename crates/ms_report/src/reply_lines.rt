@@ -62,7 +62,7 @@ fn push_reply_line(
     }
 }
 
-/// Appends the line that tells where a block starts.
+/// Appends the line that says where a block starts.
 #[inline(always)]
 fn push_at(text: &mut String, number: u64, start: u64) -> Result<(), AllocError>
     ensures { OnOk result (string_bytes text.new
@@ -72,7 +72,7 @@ fn push_at(text: &mut String, number: u64, start: u64) -> Result<(), AllocError>
     push_both(text, number, " at ", start)
 }
 
-/// Appends the line that tells a word's value.
+/// Appends the line that has a word's value.
 #[inline(always)]
 fn push_value(text: &mut String, number: u64, value: u64) -> Result<(), AllocError>
     ensures { OnOk result (string_bytes text.new

@@ -69,7 +69,7 @@ pub fn begin_run(alloc: Global, settings: Settings, detail: Detail) -> Result<Me
 }
 
 /// Answers the lines in their order, by the worker of a number. The words in use are counted on
-/// where that is asked for, and else are told as they were; for full reports they have to be, and
+/// where that is asked for, and else stay as they were; for full reports they have to be, and
 /// peaks are kept from line to line.
 pub fn answer_lines<G: Gate, S: AnswerSink>(
     alloc: Global,

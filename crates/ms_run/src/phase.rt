@@ -124,7 +124,7 @@ fn run_shares<R: Threads + Wait + Sync, G: Gate + Sync, S: AnswerSink>(
     })
 }
 
-/// Ends the shares of a phase: the system comes together again, and the meter tells its sum.
+/// Ends the shares of a phase: the system comes together again, and the meter returns its sum.
 fn end_shares(
     alloc: Global,
     shared: SharedPool,

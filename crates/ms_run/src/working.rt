@@ -46,7 +46,7 @@ impl<G: Gate> Promise<Share> for WorkOf<G> {
 }
 
 /// Works all shares, each by a thread. An error means that memory or a thread was wanting; then
-/// what was worked is lost. So many words were in use before, of which the gate is told. Takes
+/// what was worked is lost. So many words were in use before, which the gate learns. Takes
 /// memory.
 pub fn work_all<R: Threads + Wait + Sync, G: Gate + Sync>(
     rt: &R,

@@ -94,7 +94,7 @@ pub(crate) fn closed<R: Wait>(
     pool.into_seat()
 }
 
-/// Opens an account of classes and closes it: tells its owner's number.
+/// Opens an account of classes and closes it: returns its owner's number.
 pub(crate) fn opened<R: Wait>(
     rt: &HostRuntime,
     waits: &R,
@@ -118,7 +118,7 @@ pub(crate) fn opened<R: Wait>(
     }
 }
 
-/// Opens both accounts of a loader and closes them: tells their owners' numbers.
+/// Opens both accounts of a loader and closes them: returns their owners' numbers.
 pub(crate) fn opened_both<R: Wait>(
     rt: &HostRuntime,
     waits: &R,

@@ -127,7 +127,7 @@ fn times_lent(held: &[Holder]) -> ([u8; 512], u32) {
     (times, others)
 }
 
-/// The sums that an account is told.
+/// The sums that an account gets.
 fn sums_of<R: Wait>(rt: &R, lock: &SharedPool, holder: Holder) -> (Holder, PoolTotals)
     requires { holder.id ≡ lock.now.id }
     ensures { result.0.id ≡ holder.id }
@@ -295,7 +295,7 @@ fn two_seats(rt: &impl Abort, alloc: Global, max_granules: u64) -> (SharedPool, 
 }
 
 /// Has an account of each of two seats take a chunk, the first all words of a granule and the second
-/// two words: what the second is answered, and the totals that the first tells then.
+/// two words: what the second is answered, and the totals of the first then.
 fn taken_by_two<R: Wait + Abort>(
     rt: &R,
     lock: &SharedPool,

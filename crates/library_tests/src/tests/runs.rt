@@ -188,8 +188,7 @@ impl Gate for Watching {
     }
 }
 
-/// Replays a text with a gate that watches the words in use: the last and the most that it was
-/// told.
+/// Replays a text with a gate that watches the words in use: the last and the most that it saw.
 fn watched(
     rt: &(impl Abort + AllocGlobal + Threads + Wait + Sync),
     workers: u32,

@@ -6,7 +6,7 @@ use super::Loader;
 use ms_base::Block;
 
 impl Loader {
-    /// Tells under which name a block is live here, if it is. Takes no memory, and visits each name
+    /// Returns under which name a block is live here, if it is. Takes no memory, and visits each name
     /// until it is found. This project's choice.
     pub fn name_of(&self, block: Block) -> Option<u32>
         ensures live { IfSome result (λ name. HasRun self.now.state name block) }

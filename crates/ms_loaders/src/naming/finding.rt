@@ -13,7 +13,7 @@ use ms_base::Block;
 use std::collections::HashMap;
 
 impl Names {
-    /// Tells under which name a block stands, if it has one. Takes no memory, and visits each name
+    /// Returns under which name a block stands, if it has one. Takes no memory, and visits each name
     /// until it is found, in no order.
     pub fn name_of(&self, block: Block) -> Option<u32>
         ensures named { IfSome result (λ name. named self.now.entries name ≡ Some block) }
@@ -24,7 +24,7 @@ impl Names {
 }
 
 impl Table {
-    /// Tells under which name a block stands, if it has one.
+    /// Returns under which name a block stands, if it has one.
     fn name_of(&self, block: Block) -> Option<u32>
         ensures named { IfSome result (λ name. block_of self.now name ≡ Some block) }
         ensures none { IfNone result ((name : ℕ) → block_of self.now name ≢ Some block) }

@@ -103,7 +103,7 @@ impl Table {
     }
 
     /// Makes a place in the row for a name, where it may have one, and returns whether it has; all
-    /// names stay. Where it hasn't, there may be room ahead beside the row. Tells too whether
+    /// names stay. Where it hasn't, there may be room ahead beside the row. Notes too whether
     /// memory was refused.
     #[inline(always)]
     pub fn make_place(&mut self, name: u32, many: bool, refused: &mut bool) -> bool
