@@ -21,12 +21,12 @@ def built(room):
     return os.path.join(room, "release", "twin")
 
 
-def output_and_memory(program, trace, room):
-    """What a program prints over a trace, and the bytes that it held at most."""
+def output_and_memory(program, trace, room, words=()):
+    """What a program prints over a trace, with these words, and the bytes that it held at most."""
     told = os.path.join(room, "memory")
     with open(trace, "rb") as text:
-        words = ["/usr/bin/time", "--format=%M", f"--output={told}", program]
-        output = subprocess.run(words, stdin=text, stdout=subprocess.PIPE, check=True).stdout
+        timed = ["/usr/bin/time", "--format=%M", f"--output={told}", program, *words]
+        output = subprocess.run(timed, stdin=text, stdout=subprocess.PIPE, check=True).stdout
     with open(told, encoding="ascii") as file:
         return output, 1024 * int(file.read())
 

@@ -14,6 +14,7 @@ Without a name it writes all of them. Each has at most 100,000 lines, and depend
   hidden         24,000 hidden loaders of two blocks each, 1,000 of them loaded at a time
   boot           one boot loader, blocks of up to 16,384 words, a third of them freed
   large_blocks   one standard loader, up to 20 blocks of at most a root chunk, which come and go at random
+  reused         one standard loader, up to 4 blocks of a root chunk, which come and go; 4 words of each are written
   reports        1,000 standard loaders, 40,000 blocks among them, 500 unloaded, and 200 reports
   purges         100,000 purges of nothing
 """
@@ -186,6 +187,22 @@ def large_blocks(chance):
             yield f'alloc 1 {block} {chance.randint(1, 524288)}'
 
 
+def reused(chance):
+    yield 'new 1 standard'
+    live, block, lines = [], 0, 1
+    while lines < 6000:
+        if live and (len(live) == 4 or chance.random() < 0.4):
+            lines += 1
+            yield f'free 1 {taken(chance, live)}'
+            continue
+        block += 1
+        live.append(block)
+        lines += 5
+        yield f'alloc 1 {block} 524288'
+        for _ in range(4):
+            yield f'write 1 {block} {chance.randrange(524288)} {chance.randrange(1000000)}'
+
+
 def reports(chance):
     loaders = list(range(1000))
     for loader in loaders:
@@ -204,7 +221,7 @@ def purges(chance):
 
 
 TRACES = [mixed, words, one_size, short_lived, exchange, one_loader, many_loaders, churn, free_blocks, hidden, boot,
-          reports, purges, large_blocks]
+          reports, purges, large_blocks, reused]
 
 
 def main():

@@ -12,5 +12,6 @@ mod ArenaLemmas
 mod EnterLemmas
 mod PagesLemmas
 mod PageMakeLemmas
+mod CountLemmas
 mod PlacesLemmas
 pub mod OthersLemmas

@@ -118,7 +118,7 @@ outside words pages_capacity store_capacity store number low high are some from 
         apart (are.own (at / 512) number placed same) (omega (arith, same, past)) (omega (arith, same, less))
 
 -- A page that was written is in the table, where it was read.
-written_there : (pages : List Page) (number : ℕ) → (page_at pages number).written ≡ true → number < length pages
+pub written_there : (pages : List Page) (number : ℕ) → (page_at pages number).written ≡ true → number < length pages
 written_there pages number written = elim (cases_lt number (length pages)) [
   | inl less ↦ less
   | inr past ↦

@@ -2,7 +2,7 @@
 -- from its first write on, and its words count as 0 until it is written and once it is cleared (our
 -- choice).
 use Rattle.std.specs.Prelude.{◌≡◌, ℕ, ◌+◌, ◌-◌, ◌*◌, ◌/◌, ◌%◌, ◌<◌, ◌≤◌, Bool, true, false, cond, List, length}
-use Rattle.std.specs.Prelude.{nat_lt, slice_index, slice_index_or}
+use Rattle.std.specs.Prelude.{drop, nat_lt, slice_index, slice_index_or, take}
 use Rattle.std.specs.List.{count_by}
 use Rattle.ms_arena.specs.declared.pages.Page.{Page}
 
@@ -52,3 +52,19 @@ pub record Clears (old : PagesView) (from end : ℕ) (new : PagesView) : Type 0 
   pub before : (at : ℕ) → at < from → word_at new at ≡ word_at old at
   pub after : (at : ℕ) → end ≤ at → word_at new at ≡ word_at old at
   pub room : new.room ≡ old.room
+
+-- Whether a page was written since it was last cleared.
+abbrev pub is_written : Page → Bool
+is_written page = page.written
+
+-- How many of m pages from one on are written.
+abbrev pub written_from : List Page → ℕ → ℕ → ℕ
+written_from pages first m = count_by is_written (take m (drop first pages))
+
+-- Of each group of 64 pages no more are written than its count says; of groups with no count nothing is said.
+abbrev pub AreCounted : List Page → List ℕ → Type 0
+AreCounted pages counts = (group m : ℕ) → m ≡ 64 → written_from pages (64 * group) m ≤ slice_index_or counts group 64
+
+-- None of the pages from one up to another is written.
+abbrev pub HasNoneWritten : List Page → ℕ → ℕ → Type 0
+HasNoneWritten pages first past = (number : ℕ) → first ≤ number → number < past → (page_at pages number).written ≡ false

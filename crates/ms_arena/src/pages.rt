@@ -8,17 +8,26 @@
 //! A page comes into the store when a word of it is first written, and its other words are made 0
 //! then. So a page that was never written takes no memory but its room, which nothing touches. A
 //! page that is cleared as a whole keeps its place and is only marked: it is zeroed when it is next
-//! written. Kept true: the store has the pages with a place and no others, each at its own. Only
-//! `reserve` takes memory. HotSpot's arenas are memory themselves; this list stands for it.
+//! written. A long list counts the written pages of each 64, so that to clear what was never written
+//! looks at no page. Kept true: the store has the pages with a place and no others, each at its own,
+//! and no more pages are written than are counted. Only `reserve` takes memory. HotSpot's arenas are
+//! memory themselves; this list stands for it.
 ghost use Rattle.std.specs.Prelude.{◌≡◌, ◌≢◌, ℕ, ◌+◌, ◌-◌, ◌*◌, ◌/◌, ◌^◌, ◌<◌, ◌≤◌, OnOk, OnErr, length};
-ghost use Rattle.std.specs.Prelude.{true, false, IfOk, IsTrue, slice_index, vec_capacity};
-ghost use Rattle.ms_arena.specs.Pages.{word_at, page_at, Clears};
+ghost use Rattle.std.specs.Prelude.{true, false, IfOk, IsTrue, List, slice_index, slice_set, vec_capacity};
+ghost use Rattle.ms_arena.specs.declared.pages.Page.{Page as PageOf};
+ghost use Rattle.ms_arena.specs.Pages.{word_at, page_at, AreCounted, Clears, HasNoneWritten};
 
 use std::alloc::{AllocError, Global};
 use std::marker::Model;
 
 /// The words of a page.
 const PAGE: usize = 512;
+
+/// The pages of a group.
+const GROUP: usize = 64;
+
+/// For how many pages there is room at least in a list that counts them by groups.
+const MANY: usize = 128;
 
 /// A page of the list.
 #[derive(Clone, Copy)]
@@ -38,11 +47,13 @@ pub struct Pages {
     store: Vec<u64>,
     /// How many pages there is room for.
     room: usize,
+    /// For each group how many of its pages may be written; of groups further on nothing is known.
+    counts: Vec<usize>,
 }
 
 impl Model for Pages {
     ghost use Rattle.std.specs.Prelude.{vec_capacity};
-    ghost use Rattle.ms_arena.specs.Pages.{PagesView, ArePages};
+    ghost use Rattle.ms_arena.specs.Pages.{PagesView, ArePages, AreCounted};
 
     ghost Value = { PagesView };
 
@@ -50,7 +61,8 @@ impl Model for Pages {
 
     ghost invariant = { λ p. ArePages
         (record { pages = p.pages.items; store = p.store.items; room = p.room })
-        (vec_capacity p.pages) (vec_capacity p.store) };
+        (vec_capacity p.pages) (vec_capacity p.store)
+        × AreCounted p.pages.items p.counts.items };
 }
 
 impl Pages {
@@ -62,6 +74,7 @@ impl Pages {
             pages: Vec::new(alloc),
             store: Vec::new(alloc),
             room: 0,
+            counts: Vec::new(alloc),
         }
     }
 
@@ -93,6 +106,7 @@ impl Pages {
         };
         let pages = copied(alloc, self.pages.as_slice(), room)?;
         make_longer(alloc, &mut self.store, words)?;
+        make_counts(&mut self.counts, pages.as_slice(), room);
         self.pages = pages;
         self.room = room;
         Ok(())
@@ -151,9 +165,25 @@ impl Pages {
         if self.is_blank() {
             return;
         }
-        for number in from / PAGE..self.pages.len().min(end.div_ceil(PAGE)) {
+        let first = from / PAGE;
+        let past = self.pages.len().min(end.div_ceil(PAGE));
+        if self.has_none_written(first, past) {
+            return;
+        }
+        for number in first..past {
             self.clear_in(number, from, end);
         }
+    }
+
+    /// Returns whether the pages from one up to another are of one group, of which none is written.
+    fn has_none_written(&self, first: usize, past: usize) -> bool
+        ensures { IsTrue result → HasNoneWritten self.now.pages first past }
+    {
+        let group = first / GROUP;
+        if group >= self.counts.len() || past.saturating_sub(1) / GROUP > group {
+            return false;
+        }
+        self.counts[group] == 0
     }
 
     /// Returns whether a page was written since it was last cleared.
@@ -220,6 +250,7 @@ impl Pages {
             place: len / PAGE + 1,
             written: true,
         };
+        count_up(&mut self.counts, number);
     }
 
     /// Zeroes the words of a page that was cleared.
@@ -238,6 +269,7 @@ impl Pages {
             place: page.place,
             written: true,
         };
+        count_up(&mut self.counts, number);
     }
 
     /// Clears the words of a page that lie between two.
@@ -265,6 +297,7 @@ impl Pages {
                 place: page.place,
                 written: false,
             };
+            count_down(&mut self.counts, number);
         } else {
             let base = base_of(page);
             wipe(&mut self.store, base + first, base + last);
@@ -285,6 +318,68 @@ fn make_longer(alloc: Global, store: &mut Vec<u64>, words: usize) -> Result<(), 
     }
     *store = copied(alloc, store.as_slice(), words)?;
     Ok(())
+}
+
+/// Makes a count for each group of so many pages, where these are many; a group that has pages
+/// already may have all of them written. Where the allocator refuses, groups further on stay unknown.
+fn make_counts(counts: &mut Vec<usize>, pages: &[Page], room: usize)
+    requires { AreCounted pages.now counts.old.items }
+    ensures { AreCounted pages.now counts.new.items }
+{
+    if room < MANY {
+        return;
+    }
+    if lengthen_counts(counts, pages.len().div_ceil(GROUP), GROUP).is_ok() {
+        let _ = lengthen_counts(counts, room.div_ceil(GROUP), 0);
+    }
+}
+
+/// Lengthens the counts up to so many groups by that count: that of all pages, or of groups past the
+/// pages that there are.
+fn lengthen_counts(counts: &mut Vec<usize>, groups: usize, count: usize) -> Result<(), AllocError>
+    ensures long { OnOk result (groups ≤ length counts.new.items) }
+    ensures all { (pages : List PageOf) → count ≡ 64 → AreCounted pages counts.old.items
+        → AreCounted pages counts.new.items }
+    ensures none { (pages : List PageOf) → length pages ≤ 64 * length counts.old.items
+        → AreCounted pages counts.old.items → AreCounted pages counts.new.items }
+{
+    if groups <= counts.len() {
+        return Ok(());
+    }
+    match counts.resize(groups, count) {
+        Ok(()) => Ok(()),
+        Err(refused) => Err(refused),
+    }
+}
+
+/// Counts a page that becomes written.
+fn count_up(counts: &mut Vec<usize>, number: usize)
+    ensures { (pages : List PageOf) (page : PageOf) → AreCounted pages counts.old.items
+        → AreCounted (slice_set pages number page) counts.new.items }
+{
+    let group = number / GROUP;
+    if group >= counts.len() {
+        return;
+    }
+    let count = counts[group];
+    if count >= GROUP {
+        return;
+    }
+    counts[group] = count + 1;
+}
+
+/// Counts a page that was written and is cleared.
+fn count_down(counts: &mut Vec<usize>, number: usize)
+    ensures { (pages : List PageOf) (page : PageOf) → AreCounted pages counts.old.items
+        → (page_at pages number).written ≡ true → page.written ≡ false
+        → AreCounted (slice_set pages number page) counts.new.items }
+{
+    let group = number / GROUP;
+    if group >= counts.len() {
+        return;
+    }
+    let count = counts[group];
+    counts[group] = count.saturating_sub(1);
 }
 
 /// Copies a list into one with room for so many.

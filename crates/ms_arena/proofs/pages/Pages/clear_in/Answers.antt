@@ -1,4 +1,4 @@
-use Rattle.std.proofs.Common.{◌≡◌, ◌/◌, ◌%◌, ◌≤◌, ◌<◌, ℕ, ap, arith, sym}
+use Rattle.std.proofs.Common.{◌≡◌, ◌/◌, ◌%◌, ◌≤◌, ◌<◌, ◌∙◌, ℕ, ap, arith, refl, sym}
 use Rattle.ms_arena.specs.Pages.{word_at}
 use Rattle.std.proofs.lemmas.Grind.{common_steps}
 use Rattle.ms_arena.specs.declared.pages.Page.{Page}
@@ -12,7 +12,7 @@ page_lies : (c : Else-not-page)
     → let f = c.self.inside in
     Lies (record { pages = f.pages.items; store = f.store.items; room = f.room }) c.args.number c.index-page.result.now
 page_lies c =
-    lies _ c.args.self.now _ _ c.args.number c.index-page.result.now c.self.invariant c.self.view_is
+    lies _ c.args.self.now _ _ c.args.number c.index-page.result.now c.self.invariant.0 c.self.view_is
     c.requires.there c.index-page.ensures (was_written c.index-page.result.now.written c.if-not-page.false)
 
 -- What a part of it that was wiped leaves.
@@ -22,7 +22,7 @@ left : (c : After-wipe) (at : ℕ)
     word_at (record { pages = f.pages.items; store = c.wipe.new.store.items; room = f.room }) at ≡ word_at c.args.self.now at
 left c =
     part_leaves _ c.args.self.now _ _ c.args.number c.base_of-base.result c.saturating_sub-first.result c.min-last.result
-    c.index-page.result.now _ c.self.invariant c.self.view_is c.requires.there c.index-page.ensures
+    c.index-page.result.now _ c.self.invariant.0 c.self.view_is c.requires.there c.index-page.ensures
     (was_written c.index-page.result.now.written c.if-not-page.false) c.base_of-base.ensures
     (omega (arith, c.min-last.ensures)) c.wipe.ensures.before c.wipe.ensures.after
 
@@ -58,8 +58,12 @@ wipe-requires-clause-within c =
 
 pub invariant_of-self : goal.invariant_of-self
 invariant_of-self c =
-    let lies = page_lies (goal.at.invariant_of-self c).Else-not-page in
-    marked _ _ _ c.args.number _ c.self.invariant lies.there (ap (λ (page : Page). page.place) (sym lies.is)) lies.some
+    let lies = page_lies (goal.at.invariant_of-self c).Else-not-page in (
+      marked _ _ _ c.args.number _ c.self.invariant.0 lies.there (ap (λ (page : Page). page.place) (sym lies.is)) lies.some,
+      c.count_down.ensures c.self.inside.pages.items _ c.self.invariant.1
+          (ap (λ (page : Page). page.written) lies.is
+          ∙ was_written c.index-page.result.now.written (goal.at.invariant_of-self c).Else-not-page.if-not-page.false) refl,
+    )
 
 pub returns-then-not-page-clause-zero : goal.returns-then-not-page-clause-zero
 returns-then-not-page-clause-zero c = grind (arith, common_steps)

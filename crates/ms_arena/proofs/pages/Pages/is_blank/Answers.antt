@@ -6,5 +6,5 @@ use Rattle.ms_arena.proofs.pages.Pages.is_blank.Goals as goal
 
 pub returns : goal.returns
 returns c = λ yes at. rw (← c.self.view_is)
-    (blank _ _ _ c.self.invariant
+    (blank _ _ _ c.self.invariant.0
     (sym c.self.inside.store.ok.0 ∙ eqb-true (vec_len c.self.inside.store) 0 (sym c.is_empty.ensures ∙ yes)) at)

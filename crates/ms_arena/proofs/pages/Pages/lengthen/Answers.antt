@@ -4,6 +4,7 @@ use Rattle.std.specs.Prelude.{vec_len}
 use Rattle.ms_arena.specs.declared.pages.Page.{Page}
 use Rattle.ms_arena.specs.Pages.{PagesView, no_page}
 use Rattle.ms_arena.proofs.PagesLemmas.{longer}
+use Rattle.ms_arena.proofs.CountLemmas.{counted_longer}
 use Rattle.ms_arena.proofs.pages.Pages.lengthen.Goals as goal
 
 pub invariant_of-self : goal.invariant_of-self
@@ -19,5 +20,8 @@ invariant_of-self c =
     (take_all _ c.self.inside.pages.items (omega (arith, past)))
     ∙ ap (λ (n : ℕ). c.self.inside.pages.items ++ replicate (c.args.number + 1 - n) no_page)
     c.self.inside.pages.ok.0 in
-    rw same (longer _ _ _ _ (c.args.number + 1 - length c.self.inside.pages.items) c.self.invariant
-    (omega (arith, past, within)) (omega (arith, c.self.invariant.pages_room, c.in-Ok.ensures.capacity)))
+    rw same (
+      longer _ _ _ _ (c.args.number + 1 - length c.self.inside.pages.items) c.self.invariant.0
+          (omega (arith, past, within)) (omega (arith, c.self.invariant.0.pages_room, c.in-Ok.ensures.capacity)),
+      counted_longer _ _ (c.args.number + 1 - length c.self.inside.pages.items) c.self.invariant.1,
+    )
