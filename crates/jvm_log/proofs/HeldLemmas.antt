@@ -1,13 +1,15 @@
 -- Which commands are known among the lines held back, and what they do to names, as they change. Used
 -- by the functions of `held`.
-use Rattle.std.proofs.Common.{◌≡◌, ℕ, zero, suc, List, [], ◌∷◌, ◌++◌, Bool, true, Option, Some, get_or, refl, sym, ap, ◌∙◌, append-nil}
+use Rattle.std.proofs.Common.{◌≡◌, ℕ, zero, suc, List, [], ◌∷◌, ◌++◌, Bool, true, Option, Some, get_or, map, refl, sym, ap, ◌∙◌, append-nil}
 use Rattle.std.specs.Prelude.{flat_map, slice_get, slice_set}
 use Rattle.std.proofs.lemmas.Grind.{flat_map-append}
+use Rattle.std.proofs.lemmas.List.{map-append}
 use Rattle.std.proofs.lemmas.Option.{same_Some}
 use Rattle.ms_trace.specs.declared.trace.Command.{Command}
 use Rattle.jvm_log.specs.declared.held.Entry.{Entry}
 use Rattle.jvm_log.specs.declared.held.Entry.TheVariants.{Whole, Born, Asked}
 use Rattle.jvm_log.specs.declared.placed.Placed.{Placed}
+use Rattle.jvm_log.specs.Giving.{plain}
 use Rattle.jvm_log.specs.Held.{known_of, name_acts_of, waiting}
 use Rattle.jvm_log.specs.NameActs.{name_acts}
 
@@ -31,6 +33,19 @@ acts-set (first ∷ entries) (suc at) entry new is same =
     flat_map-append name_acts (known_of first) (waiting (slice_set entries at new))
     ∙ ap (λ acts. flat_map name_acts (known_of first) ++ acts) (acts-set entries at entry new is same)
     ∙ sym (flat_map-append name_acts (known_of first) (waiting entries))
+
+-- So with the kinds of loaders left out.
+pub plain-set : (entries : List Entry) (at : ℕ) (entry new : Entry) → entry ≡ get_or entries at entry
+    → map plain (known_of new) ≡ map plain (known_of entry) → map plain (waiting (slice_set entries at new)) ≡ map plain (waiting entries)
+plain-set [] at entry new is same = refl
+plain-set (first ∷ entries) zero entry new is same =
+    map-append plain (known_of new) (waiting entries)
+    ∙ ap (λ commands. commands ++ map plain (waiting entries)) (same ∙ ap (λ e. map plain (known_of e)) is)
+    ∙ sym (map-append plain (known_of first) (waiting entries))
+plain-set (first ∷ entries) (suc at) entry new is same =
+    map-append plain (known_of first) (waiting (slice_set entries at new))
+    ∙ ap (λ commands. map plain (known_of first) ++ commands) (plain-set entries at entry new is same)
+    ∙ sym (map-append plain (known_of first) (waiting entries))
 
 -- One more entry at the end.
 pub waiting-more : (entries : List Entry) (entry : Entry) → waiting (entries ++ entry ∷ []) ≡ waiting entries ++ flat_map known_of (entry ∷ [])

@@ -6,3 +6,8 @@ pub mod NameActs
 pub mod Waits
 pub mod Steps
 pub mod Kinds
+pub mod Known
+pub mod Giving
+pub mod Asking
+pub mod Living
+pub mod Lying

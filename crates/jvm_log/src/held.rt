@@ -2,7 +2,7 @@
 //!
 //!     new 3 ?    alloc 1 7 20    ?    calloc 3 0 65      a line goes out only from the front,
 //!     ---------------------------------------------      and only once it is whole
-ghost use Rattle.std.specs.Prelude.{◌≡◌, ◌≢◌, ◌≤◌, ◌<◌, ◌-◌, ◌+◌, ◌%◌, ◌^◌, ◌++◌, ◌∷◌, [], true, length, IfOk, OnOk, IfSome, IfNone, Some, None, slice_set, slice_get, IsTrue, IsFalse};
+ghost use Rattle.std.specs.Prelude.{◌≡◌, ◌≢◌, ◌≤◌, ◌<◌, ◌-◌, ◌+◌, ◌%◌, ◌^◌, ◌++◌, ◌∷◌, [], true, length, IfOk, OnOk, IfSome, IfNone, Some, None, slice_set, slice_get, IsTrue, IsFalse, map};
 ghost use Rattle.jvm_log.specs.Held.{known_of, opening};
 
 use crate::placed::Placed;
@@ -40,6 +40,7 @@ impl Held {
     ghost use Rattle.jvm_log.specs.declared.held.Entry.TheVariants.{Whole, Born, Asked, Void};
     ghost use Rattle.jvm_log.specs.Held.{PutsLine, waiting, name_acts_of};
     ghost use Rattle.jvm_log.specs.NameActs.{name_acts};
+    ghost use Rattle.jvm_log.specs.Giving.{plain};
 
     /// Makes an empty list.
     pub(crate) fn new(alloc: Global) -> Held
@@ -125,7 +126,8 @@ impl Held {
 
     /// Gives the line of that number the loader's kind, where it opens one and is still held back.
     pub(crate) fn tell_kind(&mut self, number: u64, kind: Kind)
-        ensures { name_acts_of self.new.entries.items ≡ name_acts_of self.old.entries.items }
+        ensures acts { name_acts_of self.new.entries.items ≡ name_acts_of self.old.entries.items }
+        ensures lines { map plain (waiting self.new.entries.items) ≡ map plain (waiting self.old.entries.items) }
     {
         if number >= self.first
             && let Some(entry) = self.entries.get_mut((number - self.first) as usize)

@@ -1,5 +1,5 @@
 //! A loader that lives, its blocks, and a thread's request to it: what each amounts to in a trace.
-ghost use Rattle.std.specs.Prelude.{◌≡◌, ◌≢◌, ◌+◌, ◌<◌, ◌^◌, IfSome, IfNone, OnSome, Some};
+ghost use Rattle.std.specs.Prelude.{◌≡◌, ◌≢◌, ◌+◌, ◌<◌, ◌≤◌, ◌^◌, IfSome, IfNone, OnSome, Some};
 
 use ms_base::{Kind, Space, Step};
 
@@ -63,8 +63,12 @@ impl Loader {
     /// Takes the next number of a block of this loader, which lies at that address, if one is left.
     pub(crate) fn next_block(&mut self, loader: u64) -> Option<Block>
         ensures same { self.new ≡ record self.old { next = self.new.next } }
-        ensures block { IfSome result (λ block. (block.birth ≡ self.old.birth) × (block.number ≡ self.old.next)) }
+        ensures block { IfSome result (λ block. block
+            ≡ record { loader = loader; birth = self.old.birth; number = self.old.next }) }
         ensures next { OnSome result (self.new.next ≡ self.old.next + 1) }
+        ensures some { OnSome result (self.old.next + 1 < 2 ^ 32) }
+        ensures none { IfNone result (2 ^ 32 ≤ self.old.next + 1) }
+        ensures unchanged { IfNone result (self.new ≡ self.old) }
     {
         let number = self.next;
         self.next = number.checked_add(1)?;

@@ -5,8 +5,15 @@
 //! A request's line stands where its first step in the pool stood, which is under one lock for all
 //! threads, or else where its answer stood: so lines are held back until what stands before them is
 //! known. Takes memory for what lives, and for the lines held back.
-ghost use Rattle.std.specs.Prelude.{◌≡◌, ◌∷◌, [], true, false, All, IfOk, IfSome, IfNone, OnOk};
-ghost use Rattle.jvm_log.specs.Waits.{Answers, Frees, UsesNames, acts_in, is_closed, names_in, waiting_in};
+ghost use Rattle.std.specs.Prelude.{◌≡◌, ◌∷◌, [], ℕ, true, false, None, Some, All, IfOk, IfSome, IfNone, OnOk, map, nat_eq};
+ghost use Rattle.std.specs.Map.{lookup, update};
+ghost use Rattle.std.specs.Option.{option_map};
+ghost use Rattle.jvm_log.specs.Asking.{Asking, asked, passed};
+ghost use Rattle.jvm_log.specs.Giving.{Adds, Answers, Bears, Gives, Opens, freeing, given, plain, reporting, unloading};
+ghost use Rattle.jvm_log.specs.Known.{blocks_in, known_in, loaders_in, owner_of, request_of};
+ghost use Rattle.jvm_log.specs.Living.{Comes, Counts, Dies, IsBorn, Living, Same};
+ghost use Rattle.jvm_log.specs.Lying.{Clears, IsTaken, Lays, Lying, Tells, answer_as, laid_in};
+ghost use Rattle.jvm_log.specs.Waits.{UsesNames, acts_in, is_closed, names_in, waiting_in};
 
 use crate::event::{Event, Said};
 use crate::held::{Entry, Held};
@@ -93,7 +100,12 @@ impl Machine {
 
     /// Takes in what a line says. What is wrong with it is no error.
     pub fn take_in(&mut self, said: Said) -> Result<Option<Trouble>, AllocError>
-        ensures { OnOk result (UsesNames self.old self.new) }
+        ensures lines { OnOk result (Gives said.thread said.event (known_in self.old) (names_in self.new)
+            (waiting_in self.new)) }
+        ensures requests { OnOk result (Asking said.thread said.event (known_in self.old) (request_of self.new)) }
+        ensures loaders { OnOk result (Living said.thread said.event (known_in self.old) (loaders_in self.new)) }
+        ensures blocks { OnOk result (Lying said.thread said.event (known_in self.old) (blocks_in self.new)) }
+        ensures names { OnOk result (UsesNames self.old self.new) }
     {
         let late = self.begin(said.event);
         let trouble = self.heed(said)?;
@@ -106,6 +118,7 @@ impl Machine {
     fn begin(&mut self, event: Event) -> Option<Trouble>
         ensures no_line { waiting_in self.new ≡ waiting_in self.old }
         ensures names { names_in self.new ≡ names_in self.old }
+        ensures rest { self.new ≡ record self.old { began = self.new.began } }
     {
         if self.began || !is_of_the_metaspace(event) {
             return None;
@@ -121,6 +134,7 @@ impl Machine {
     fn shorten(&mut self)
         ensures no_line { waiting_in self.new ≡ waiting_in self.old }
         ensures names { names_in self.new ≡ names_in self.old }
+        ensures rest { self.new ≡ record self.old { held = self.new.held } }
     {
         if self.held.len() > MOST_HELD {
             self.held.settle_first();
@@ -128,9 +142,14 @@ impl Machine {
     }
 
     /// Does what an event asks.
-    #[tactic(auto, using(crate::proofs::NameLemmas::uses_quiet, crate::proofs::NameLemmas::uses_same))]
+    #[tactic(auto, using(crate::proofs::NameLemmas::uses_quiet, crate::proofs::NameLemmas::uses_same, crate::proofs::GivingLemmas::adds_none, crate::proofs::GivingLemmas::adds_quiet, crate::proofs::KnownLemmas::asks_none, crate::proofs::KnownLemmas::same_is, crate::proofs::KnownLemmas::keeps_is))]
     fn heed(&mut self, said: Said) -> Result<Option<Trouble>, AllocError>
-        ensures { OnOk result (UsesNames self.old self.new) }
+        ensures lines { OnOk result (Gives said.thread said.event (known_in self.old) (names_in self.new)
+            (waiting_in self.new)) }
+        ensures requests { OnOk result (Asking said.thread said.event (known_in self.old) (request_of self.new)) }
+        ensures loaders { OnOk result (Living said.thread said.event (known_in self.old) (loaders_in self.new)) }
+        ensures blocks { OnOk result (Lying said.thread said.event (known_in self.old) (blocks_in self.new)) }
+        ensures names { OnOk result (UsesNames self.old self.new) }
     {
         let thread = said.thread;
         match said.event {
@@ -168,7 +187,11 @@ impl Machine {
         arena: u64,
         class_arena: u64,
     ) -> Result<Option<Trouble>, AllocError>
-        ensures { OnOk result (UsesNames self.old self.new) }
+        ensures lines { OnOk result (Bears loader (known_in self.old) (names_in self.new) (waiting_in self.new)) }
+        ensures loaders { OnOk result (IsBorn loader arena class_arena (loaders_in self.old) (loaders_in self.new)) }
+        ensures requests { self.new.requests ≡ self.old.requests }
+        ensures blocks { blocks_in self.new ≡ blocks_in self.old }
+        ensures names { OnOk result (UsesNames self.old self.new) }
     {
         if !self.loaders.contains_key(&loader) {
             return self.open(loader, arena, class_arena);
@@ -186,7 +209,11 @@ impl Machine {
         arena: u64,
         class_arena: u64,
     ) -> Result<Option<Trouble>, AllocError>
-        ensures { OnOk result (UsesNames self.old self.new) }
+        ensures lines { OnOk result (Opens (names_in self.new) (waiting_in self.old) (waiting_in self.new)) }
+        ensures loaders { OnOk result (Comes loader arena class_arena (loaders_in self.old) (loaders_in self.new)) }
+        ensures requests { self.new.requests ≡ self.old.requests }
+        ensures blocks { blocks_in self.new ≡ blocks_in self.old }
+        ensures names { OnOk result (UsesNames self.old self.new) }
     {
         let Some(name) = self.names.take() else {
             return Ok(Some(Trouble::NoName));
@@ -217,6 +244,10 @@ impl Machine {
     /// Sets the kind of a loader that has none.
     fn set_kind(&mut self, loader: u64, kind: Kind)
         ensures acts { acts_in self.new ≡ acts_in self.old }
+        ensures lines { map plain (waiting_in self.new) ≡ map plain (waiting_in self.old) }
+        ensures loaders { (address : ℕ)
+            → (loaders_in self.new).loader_at address ≡ (loaders_in self.old).loader_at address }
+        ensures rest { self.new ≡ record self.old { loaders = self.new.loaders; held = self.new.held } }
         ensures names { names_in self.new ≡ names_in self.old }
     {
         let Some(known) = self.loaders.get_mut(&loader) else {
@@ -233,7 +264,12 @@ impl Machine {
     /// Removes a loader that dies.
     #[tactic(auto, using(crate::proofs::NameLemmas::uses_quiet, crate::proofs::NameLemmas::uses_same))]
     fn bury(&mut self, loader: u64) -> Result<Option<Trouble>, AllocError>
-        ensures { OnOk result (UsesNames self.old self.new) }
+        ensures lines { OnOk result (Adds (unloading ((loaders_in self.old).loader_at loader))
+            (waiting_in self.old) (waiting_in self.new)) }
+        ensures loaders { OnOk result (Dies loader (loaders_in self.old) (loaders_in self.new)) }
+        ensures requests { self.new.requests ≡ self.old.requests }
+        ensures blocks { blocks_in self.new ≡ blocks_in self.old }
+        ensures names { OnOk result (UsesNames self.old self.new) }
     {
         let untold = self.untold(loader);
         self.set_kind(loader, Kind::Standard);
@@ -257,6 +293,10 @@ impl Machine {
 
     /// Opens a thread's request to an arena for words.
     fn ask(&mut self, thread: u64, arena: u64, words: u64) -> Result<Option<Trouble>, AllocError>
+        ensures blocks { blocks_in self.new ≡ blocks_in self.old }
+        ensures requests { OnOk result ((q : ℕ) → request_of self.new q ≡ update nat_eq (request_of self.old) thread
+            (asked ((loaders_in self.old).owner_at arena) arena words) q) }
+        ensures loaders { loaders_in self.new ≡ loaders_in self.old }
         ensures no_line { waiting_in self.new ≡ waiting_in self.old }
         ensures names { names_in self.new ≡ names_in self.old }
     {
@@ -278,6 +318,8 @@ impl Machine {
 
     /// Forgets a request that a thread has open.
     fn forget(&mut self, thread: u64) -> Option<Trouble>
+        ensures requests { (q : ℕ) → request_of self.new q ≡ update nat_eq (request_of self.old) thread None q }
+        ensures rest { self.new ≡ record self.old { requests = self.new.requests; held = self.new.held } }
         ensures no_line { waiting_in self.new ≡ waiting_in self.old }
         ensures names { names_in self.new ≡ names_in self.old }
     {
@@ -288,6 +330,7 @@ impl Machine {
 
     /// Makes nothing of a request.
     fn abandon(&mut self, request: Request)
+        ensures rest { self.new ≡ record self.old { held = self.new.held } }
         ensures no_line { waiting_in self.new ≡ waiting_in self.old }
         ensures names { names_in self.new ≡ names_in self.old }
     {
@@ -298,6 +341,10 @@ impl Machine {
 
     /// Takes back a request that is refused: HotSpot asks again.
     fn refuse(&mut self, thread: u64) -> Result<Option<Trouble>, AllocError>
+        ensures blocks { blocks_in self.new ≡ blocks_in self.old }
+        ensures loaders { loaders_in self.new ≡ loaders_in self.old }
+        ensures requests { OnOk result ((q : ℕ)
+            → request_of self.new q ≡ update nat_eq (request_of self.old) thread None q) }
         ensures no_line { waiting_in self.new ≡ waiting_in self.old }
         ensures names { names_in self.new ≡ names_in self.old }
     {
@@ -309,6 +356,10 @@ impl Machine {
 
     /// Notes a step of a thread's request in the pool: the first decides where its line stands.
     fn pass_the_pool(&mut self, thread: u64) -> Result<Option<Trouble>, AllocError>
+        ensures blocks { blocks_in self.new ≡ blocks_in self.old }
+        ensures loaders { loaders_in self.new ≡ loaders_in self.old }
+        ensures requests { OnOk result ((q : ℕ) → request_of self.new q ≡ update nat_eq (request_of self.old) thread
+            (option_map (passed self.old.held) (request_of self.old thread)) q) }
         ensures no_line { OnOk result (waiting_in self.new ≡ waiting_in self.old) }
         ensures names { names_in self.new ≡ names_in self.old }
     {
@@ -327,6 +378,10 @@ impl Machine {
         space: Space,
         level: u64,
     ) -> Result<Option<Trouble>, AllocError>
+        ensures loaders { Same (loaders_in self.old) (loaders_in self.new) }
+        ensures lines { map plain (waiting_in self.new) ≡ map plain (waiting_in self.old) }
+        ensures requests { self.new.requests ≡ self.old.requests }
+        ensures blocks { blocks_in self.new ≡ blocks_in self.old }
         ensures acts { acts_in self.new ≡ acts_in self.old }
         ensures names { names_in self.new ≡ names_in self.old }
     {
@@ -348,7 +403,13 @@ impl Machine {
         space: Space,
         address: Option<u64>,
     ) -> Result<Option<Trouble>, AllocError>
-        ensures line { OnOk result (Answers thread arena space self.old self.new) }
+        ensures lines { OnOk result (Answers thread arena space (known_in self.old) (waiting_in self.new)) }
+        ensures loaders { OnOk result (Counts arena (given thread arena space (known_in self.old))
+            (loaders_in self.old) (loaders_in self.new)) }
+        ensures blocks { OnOk result (Lays thread arena address (given thread arena space (known_in self.old))
+            (known_in self.old) (blocks_in self.new)) }
+        ensures requests { OnOk result ((q : ℕ)
+            → request_of self.new q ≡ update nat_eq (request_of self.old) thread None q) }
         ensures acts { OnOk result (acts_in self.new ≡ acts_in self.old) }
         ensures names { names_in self.new ≡ names_in self.old }
     {
@@ -378,20 +439,29 @@ impl Machine {
 
     /// Notes the address of a thread's block. After a collection the answer was another thread's.
     fn tell(&mut self, thread: u64, address: u64) -> Result<Option<Trouble>, AllocError>
+        ensures loaders { loaders_in self.new ≡ loaders_in self.old }
+        ensures requests { self.new.requests ≡ self.old.requests }
+        ensures blocks { OnOk result (Tells thread address (blocks_in self.old) (blocks_in self.new)) }
         ensures no_line { waiting_in self.new ≡ waiting_in self.old }
         ensures names { names_in self.new ≡ names_in self.old }
     {
-        let answer = match self.answers.remove(&thread) {
-            Some(answer) => Some(answer),
-            None => match self.answerer(address) {
-                Some(other) => self.answers.remove(&other),
-                None => None,
-            },
-        };
-        if let Some(Answer::FromFreeBlocks(block)) = answer {
+        if let Some(Answer::FromFreeBlocks(block)) = self.take_answer(thread, address) {
             self.blocks.insert(address, block)?;
         }
         Ok(None)
+    }
+
+    /// Takes a thread's last answer, or where it has none another's that may be the block at that
+    /// address.
+    fn take_answer(&mut self, thread: u64, address: u64) -> Option<Answer>
+        ensures answer { IsTaken thread result (blocks_in self.old) (blocks_in self.new) }
+        ensures rest { self.new ≡ record self.old { answers = self.new.answers } }
+    {
+        if let Some(answer) = self.answers.remove(&thread) {
+            return Some(answer);
+        }
+        let other = self.answerer(address)?;
+        self.answers.remove(&other)
     }
 
     /// Finds the thread whose last answer may be the block at that address.
@@ -412,7 +482,12 @@ impl Machine {
 
     /// Frees an arena's block at that address.
     fn free(&mut self, arena: u64, address: u64) -> Result<Option<Trouble>, AllocError>
-        ensures line { OnOk result (Frees arena address self.old self.new) }
+        ensures lines { OnOk result (Adds (freeing (owner_of (loaders_in self.old) arena)
+            ((blocks_in self.old).block_at address)) (waiting_in self.old) (waiting_in self.new)) }
+        ensures loaders { loaders_in self.new ≡ loaders_in self.old }
+        ensures requests { self.new.requests ≡ self.old.requests }
+        ensures blocks { OnOk result (Clears (owner_of (loaders_in self.old) arena) address
+            (blocks_in self.old) (blocks_in self.new)) }
         ensures acts { OnOk result (acts_in self.new ≡ acts_in self.old) }
         ensures names { names_in self.new ≡ names_in self.old }
     {
@@ -434,6 +509,10 @@ impl Machine {
 
     /// Notes the kind of the loader whose class has its block at that address.
     fn add_class(&mut self, address: u64, kind: Kind) -> Result<Option<Trouble>, AllocError>
+        ensures loaders { Same (loaders_in self.old) (loaders_in self.new) }
+        ensures lines { map plain (waiting_in self.new) ≡ map plain (waiting_in self.old) }
+        ensures requests { self.new.requests ≡ self.old.requests }
+        ensures blocks { blocks_in self.new ≡ blocks_in self.old }
         ensures acts { acts_in self.new ≡ acts_in self.old }
         ensures names { names_in self.new ≡ names_in self.old }
     {
@@ -446,6 +525,10 @@ impl Machine {
 
     /// Adds a report after a collection, where those are asked for.
     fn collect(&mut self) -> Result<Option<Trouble>, AllocError>
+        ensures loaders { loaders_in self.new ≡ loaders_in self.old }
+        ensures lines { OnOk result (Adds (reporting self.old.reports) (waiting_in self.old) (waiting_in self.new)) }
+        ensures requests { self.new.requests ≡ self.old.requests }
+        ensures blocks { blocks_in self.new ≡ blocks_in self.old }
         ensures acts { OnOk result (acts_in self.new ≡ acts_in self.old) }
         ensures names { names_in self.new ≡ names_in self.old }
     {
@@ -505,15 +588,21 @@ fn keep(
     thread: u64,
     block: Block,
     address: Option<u64>,
-) -> Result<(), AllocError> {
-    let answer = match address {
+) -> Result<(), AllocError>
+    ensures blocks { OnOk result ((q : ℕ) → lookup (nat_eq q) blocks.new.entries
+        ≡ laid_in (λ at. lookup (nat_eq at) blocks.old.entries) address block q) }
+    ensures answers { OnOk result ((q : ℕ) → lookup (nat_eq q) answers.new.entries
+        ≡ update nat_eq (λ of. lookup (nat_eq of) answers.old.entries) thread (Some (answer_as address block)) q) }
+{
+    match address {
         Some(address) => {
             blocks.insert(address, block)?;
-            Answer::At(address)
+            answers.insert(thread, Answer::At(address))?;
         }
-        None => Answer::FromFreeBlocks(block),
-    };
-    answers.insert(thread, answer)?;
+        None => {
+            answers.insert(thread, Answer::FromFreeBlocks(block))?;
+        }
+    }
     Ok(())
 }
 

@@ -1,15 +1,23 @@
--- A loader's kind does nothing to its name.
-use Rattle.std.proofs.Common.{◌-◌, sym, ap, ◌∙◌}
+-- A loader's kind does nothing to its name, nor to what the line says besides.
+use Rattle.std.proofs.Common.{◌-◌, sym, ap, ◌∙◌, map}
 use Rattle.std.specs.Prelude.{flat_map}
 use Rattle.jvm_log.specs.declared.held.Entry.TheVariants.{Whole}
+use Rattle.jvm_log.specs.Giving.{plain}
 use Rattle.jvm_log.specs.Held.{known_of}
 use Rattle.jvm_log.specs.NameActs.{name_acts}
-use Rattle.jvm_log.proofs.HeldLemmas.{acts-set}
+use Rattle.jvm_log.proofs.HeldLemmas.{acts-set, plain-set}
 use Rattle.jvm_log.proofs.held.Held.tell_kind.Goals as goal
 
-pub returns-in-Born : goal.returns-in-Born
-returns-in-Born c =
+pub returns-in-Born-clause-acts : goal.returns-in-Born-clause-acts
+returns-in-Born-clause-acts c =
     acts-set c.args.self.now.entries.items (c.args.number - c.args.self.now.first) c.in-Some.entry.now (Whole c.opening.result)
     c.in-Some.ensures.value
     (ap (λ line. flat_map name_acts (known_of (Whole line))) c.opening.ensures
     ∙ sym (ap (λ entry. flat_map name_acts (known_of entry)) c.in-Born.is))
+
+pub returns-in-Born-clause-lines : goal.returns-in-Born-clause-lines
+returns-in-Born-clause-lines c =
+    plain-set c.args.self.now.entries.items (c.args.number - c.args.self.now.first) c.in-Some.entry.now (Whole c.opening.result)
+    c.in-Some.ensures.value
+    (ap (λ line. map plain (known_of (Whole line))) c.opening.ensures
+    ∙ sym (ap (λ entry. map plain (known_of entry)) c.in-Born.is))

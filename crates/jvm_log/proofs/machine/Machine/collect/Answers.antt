@@ -1,8 +1,15 @@
 -- A report does nothing to names.
-use Rattle.std.proofs.Common.{refl}
+use Rattle.std.proofs.Common.{◌∷◌, [], true, refl, ap}
 use Rattle.ms_trace.specs.declared.trace.Command.TheVariants.{Report}
+use Rattle.jvm_log.specs.Giving.{reporting}
+use Rattle.jvm_log.proofs.GivingLemmas.{adds_whole}
 use Rattle.jvm_log.proofs.HeldLemmas.{acts_quiet}
 use Rattle.jvm_log.proofs.machine.Machine.collect.Goals as goal
+
+pub returns-in_ok-add-clause-lines : goal.returns-in_ok-add-clause-lines
+returns-in_ok-add-clause-lines c =
+    adds_whole c.args.self.now.held.entries.items c.add.new.self.entries.items c.from.result Report
+    (reporting c.args.self.now.reports) c.in_ok-add.ensures c.from.ensures (ap reporting c.if-self.true)
 
 pub returns-in_ok-add-clause-acts : goal.returns-in_ok-add-clause-acts
 returns-in_ok-add-clause-acts c =

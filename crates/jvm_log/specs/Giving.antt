@@ -1,0 +1,97 @@
+-- Which commands of the trace come of what a line of the log says: each loader's are its arenas' events.
+use Rattle.std.specs.Prelude.{◌≡◌, ◌<◌, ◌+◌, ◌^◌, ℕ, Bool, true, List, [], ◌∷◌, ◌++◌, Option, Some, None, nat_eq, nat_lt, map, slice_get}
+use Rattle.std.specs.Prelude.{if◌then◌else◌}
+use Rattle.ms_base.specs.declared.kind.Kind.TheVariants.{Standard}
+use Rattle.ms_base.specs.declared.kind.Space.{Space}
+use Rattle.ms_base.specs.declared.step.Step.TheVariants.{New, Free, Unload}
+use Rattle.ms_trace.specs.declared.trace.Command.{Command}
+use Rattle.ms_trace.specs.declared.trace.Command.TheVariants.{Step as Asks, Report}
+use Rattle.jvm_log.specs.declared.event.Event.{Event}
+use Rattle.jvm_log.specs.declared.event.Event.TheVariants.{LoaderBorn, LoaderDies, Returned, TakenFromFreeBlocks, Deallocated, Collection}
+use Rattle.jvm_log.specs.declared.held.Held.{Held}
+use Rattle.jvm_log.specs.declared.loader.Block.{Block}
+use Rattle.jvm_log.specs.declared.loader.Request.{Request}
+use Rattle.jvm_log.specs.declared.placed.Placed.{Placed}
+use Rattle.jvm_log.specs.Held.{PutsLine, waiting}
+use Rattle.jvm_log.specs.Known.{Known, Life, owner_of, waits}
+use Rattle.jvm_log.specs.Parts.{◌>>=◌}
+use Rattle.jvm_log.specs.Steps.{step_for}
+
+-- A loader that dies gives its last line, where it is known.
+abbrev pub unloading : Option Life → List Command
+unloading None = []
+unloading (Some loader) = Asks (Unload loader.name) ∷ []
+
+-- A block that an arena frees gives a line of the arena's loader, where both are known and the block is that loader's.
+abbrev pub freeing : Option Life → Option Block → List Command
+freeing None block = []
+freeing (Some owner) None = []
+freeing (Some owner) (Some block) =
+    if nat_eq block.birth owner.birth then Asks (Free owner.name block.number) ∷ [] else []
+
+-- A request that is answered gives its block's line: the words that were asked for, in the answer's space, under the
+-- next number of the arena's loader, where both are known and a number is left.
+abbrev pub allocating : Space → Option Request → Option Life → Option Command
+allocating space None owner = None
+allocating space (Some request) None = None
+allocating space (Some request) (Some owner) =
+    if nat_lt (owner.next + 1) (2 ^ 32) then Some (Asks (step_for space owner.name owner.next request.words)) else None
+
+-- A report is asked for, or not.
+abbrev pub reporting : Bool → List Command
+reporting reports = if reports then Report ∷ [] else []
+
+-- A command without the kind of the loader that it makes, which may come to be known while its line waits.
+abbrev pub plain : Command → Command
+plain (Asks (New loader kind)) = Asks (New loader Standard)
+plain command = command
+
+-- Each name is in use.
+abbrev pub IsFull : List Bool → Type 0
+IsFull used = (name : ℕ) → name < 65536 → slice_get used name ≡ Some true
+
+-- The first line of a loader that is born, or none where each name is in use.
+abbrev pub IsOpening : List Bool → List Command → Type 0
+IsOpening used [] = IsFull used
+IsOpening used (command ∷ more) = (name : ℕ) × (command ≡ Asks (New name Standard)) × (more ≡ [])
+
+-- Commands come after those that wait, whose loaders' kinds may come to be known.
+abbrev pub Adds : List Command → List Command → List Command → Type 0
+Adds commands old new = map plain new ≡ map plain old ++ commands
+
+-- A command is put where its request waits for it, or at the end; nothing comes where there is none.
+abbrev pub Puts : Option ℕ → Option Command → Held → List Command → Type 0
+Puts place None old new = new ≡ waiting old.entries.items
+Puts place (Some command) old new =
+    (line : Placed) × (held : Held) × (line.command ≡ command) × PutsLine place line old held × (new ≡ waiting held.entries.items)
+
+-- What a thread's request to an arena gives: its line stands where the request passed the pool.
+abbrev pub given : ℕ → ℕ → Space → Known → Option Command
+given thread arena space known = allocating space (known.request_of thread) (owner_of known.loaders arena)
+
+abbrev pub Answers : ℕ → ℕ → Space → Known → List Command → Type 0
+Answers thread arena space known new =
+    Puts (known.request_of thread >>= λ request. request.line) (given thread arena space known) known.held new
+
+-- A loader that is born gives its first line.
+abbrev pub Opens : List Bool → List Command → List Command → Type 0
+Opens used old new = (opening : List Command) × IsOpening used opening × Adds opening old new
+
+-- A loader is born, after the last line of one that lives at its address.
+abbrev pub Bears : ℕ → Known → List Bool → List Command → Type 0
+Bears loader known used new =
+    (opening : List Command) × IsOpening used opening × Adds (unloading (known.loaders.loader_at loader) ++ opening) (waits known) new
+
+-- What any other event adds at the end.
+abbrev pub ending : Event → Known → List Command
+ending (LoaderDies loader) known = unloading (known.loaders.loader_at loader)
+ending (Deallocated arena space address words) known = freeing (owner_of known.loaders arena) (known.blocks.block_at address)
+ending Collection known = reporting known.reports
+ending event known = []
+
+-- What waits after a line of the log, by what was known before, and which names are in use then.
+abbrev pub Gives : ℕ → Event → Known → List Bool → List Command → Type 0
+Gives thread (LoaderBorn loader arena class_arena) known used new = Bears loader known used new
+Gives thread (Returned arena space address) known used new = Answers thread arena space known new
+Gives thread (TakenFromFreeBlocks arena space) known used new = Answers thread arena space known new
+Gives thread event known used new = Adds (ending event known) (waits known) new
