@@ -1,4 +1,4 @@
-use Rattle.std.proofs.Common.{◌≡◌, ◌/◌, ◌<◌, length, arith}
+use Rattle.std.proofs.Common.{◌/◌, arith}
 use Rattle.ms_arena.proofs.CountLemmas.{counted_down, counted_full, unknown}
 use Rattle.ms_arena.proofs.pages.count_down.Goals as goal
 

@@ -1,4 +1,4 @@
-use Rattle.std.proofs.Common.{◌≡◌, ◌/◌, ◌<◌, length, arith}
+use Rattle.std.proofs.Common.{◌/◌, arith}
 use Rattle.ms_arena.proofs.CountLemmas.{count_is, counted_full, counted_up, unknown}
 use Rattle.ms_arena.proofs.pages.count_up.Goals as goal
 

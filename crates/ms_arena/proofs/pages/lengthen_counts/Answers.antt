@@ -1,4 +1,4 @@
-use Rattle.std.proofs.Common.{◌≡◌, ◌-◌, ◌≤◌, ◌++◌, ◌∙◌, List, ℕ, ap, arith, replicate, take_all}
+use Rattle.std.proofs.Common.{◌≡◌, ◌-◌, ◌++◌, ◌∙◌, List, ℕ, ap, arith, replicate, take_all}
 use Rattle.std.specs.Prelude.{vec_len}
 use Rattle.ms_arena.proofs.CountLemmas.{counted_all, counted_none}
 use Rattle.ms_arena.proofs.pages.lengthen_counts.Goals as goal

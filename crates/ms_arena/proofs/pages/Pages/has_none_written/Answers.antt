@@ -1,4 +1,4 @@
-use Rattle.std.proofs.Common.{◌≡◌, ◌/◌, ◌-◌, ◌<◌, ◌∙◌, length, arith}
+use Rattle.std.proofs.Common.{◌/◌, ◌∙◌, arith}
 use Rattle.std.proofs.lemmas.Bool.{eqb-true}
 use Rattle.ms_arena.proofs.CountLemmas.{count_is, none_written}
 use Rattle.ms_arena.proofs.pages.Pages.has_none_written.Goals as goal
