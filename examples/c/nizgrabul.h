@@ -83,7 +83,7 @@
 #define NIZGRABUL_H
 
 /* It rises where a call or a struct changes; nizgrabul_version returns that of the library. */
-#define NIZGRABUL_VERSION 6
+#define NIZGRABUL_VERSION 7
 
 #include <stdbool.h>
 #include <stddef.h>
@@ -442,9 +442,9 @@ nizgrabul_answer nizgrabul_seat_purge(nizgrabul_seat *seat);
  * where there is none. Takes no memory. */
 uint64_t nizgrabul_seat_used(nizgrabul_seat *seat);
 
-/* Writes the sums of the seat's loader to `out`. Returns DONE, NO_SEAT, or NO_LOADER where there is none with
- * numbers; all but DONE leave `out` as it was. Takes no memory; visits each chunk of the loader, and no block.
- * */
+/* Writes the sums of the seat's loader, with numbers for its blocks or without, to `out`. Returns DONE, NO_SEAT,
+ * or NO_LOADER where there is none; all but DONE leave `out` as it was. Takes no memory; visits each chunk of the
+ * loader, and no block. */
 uint32_t nizgrabul_seat_totals(nizgrabul_seat *seat, nizgrabul_sums_of_loader *out);
 
 /* Writes to `out` of each granule from `first` on, as many as it has places, whether it is committed in the

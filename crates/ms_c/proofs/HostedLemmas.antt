@@ -14,6 +14,7 @@ use Rattle.ms_c.specs.Arenas.{ServesArenas}
 use Rattle.ms_c.specs.Member.{IsSeated, HostsArenas, AnswersOver, AnswersWithout, FreesIn}
 use Rattle.ms_c.specs.Taking.{ServesAny, TakesAny, TakesAlone, GivesAny}
 use Rattle.ms_c.proofs.ArenasLemmas.{serves_own, serves_giving}
+use Rattle.ms_c.proofs.SeatedLemmas.{has_it}
 
 -- A seat hosts arenas: alone, and with the pool.
 pub hosted : (arenas : Option Arenas) (one : Option SeatState) (held : HeldState) (some : Option HeldState)
@@ -230,6 +231,19 @@ pub hosts_new : (arenas : Arenas) (one : Option SeatState) (now : HeldState) (lo
 hosts_new arenas None now None alone none its = its
 hosts_new arenas (Some seat) now loader alone none its = absurd (cc)
 hosts_new arenas None now (Some loader) alone none its = absurd (cc)
+
+-- So it is of a member whose arenas were opened over the pool that its seat has.
+pub hosts_made : (lock : LockState) (one : Option SeatState) (some : Option HeldState) (held now : HeldState)
+    (loader : Option LoaderView) (arenas : Arenas) {before : Option Arenas} {X : Type 0} → some ≡ Some held
+    → loader ≡ None → now.seat.id ≡ held.seat.id → ServesArenas now.seat.knows arenas
+    → IsSeated lock one some loader × HostsArenas before one some loader × X
+    → IsSeated lock one (Some now) loader × HostsArenas (Some arenas) one (Some now) loader × X
+hosts_made lock one some held now loader arenas is none own serves its =
+    let had = has_it lock one some held loader is its.0 in (
+      seated_bare lock one now loader had.alone none (own ∙ had.own),
+      hosts_new arenas one now loader had.alone none serves,
+      its.2,
+    )
 
 -- Beside a loader there are no arenas.
 pub no_arenas : (arenas : Option Arenas) (one : Option SeatState) (held : Option HeldState)

@@ -8,6 +8,8 @@ use Rattle.ms_base.specs.declared.refusal.Refusal.{Refusal}
 use Rattle.ms_pool.specs.Account.{AccountState}
 use Rattle.ms_arena.specs.Arena.{ArenaView, account_of, new_arena, Places, FreesBlock as FreesRun}
 use Rattle.ms_arena.specs.Alloc.{Allocates}
+use Rattle.ms_arena.specs.ArenaSums.{AreSums}
+use Rattle.ms_loaders.specs.declared.system.sums.LoaderTotals.{LoaderTotals}
 use Rattle.ms_shared.specs.declared.lock_rule.SeatView.{SeatView}
 use Rattle.ms_shared.specs.SeatView.{HeldState, ServesBy, opened_by}
 use Rattle.ms_shared.specs.LockCalls.{TookHeld, GrewHeld, OpenedBothHeld}
@@ -56,3 +58,9 @@ pub record GivesBlock (space : Space) (old : Arenas) (block : Block) (new : Aren
   pub is : ArenaView
   pub frees : FreesRun (arena_in space old) block is
   pub new_is : new ≡ with_arena space old is
+
+-- The totals are the kind of a loader without names and the sums over both its arenas.
+pub record AreArenasSums (arenas : Arenas) (totals : LoaderTotals) : Type 0 where
+  pub kind : totals.kind ≡ arenas.arena.kind
+  pub space : AreSums totals.space arenas.arena
+  pub class_space : AreSums totals.class_space arenas.class_arena

@@ -17,9 +17,9 @@ use Rattle.ms_c.specs.Kinds.{kind_number}
 use Rattle.ms_c.specs.Sums.{loader_told}
 use Rattle.ms_c.specs.Settings.{AreSettings, AreFit}
 use Rattle.ms_c.specs.Seating.{Seated}
-use Rattle.ms_c.specs.Member.{MemberState, IsFirst, Splits, AnswersNew, TellsPool, Purges, AreItsSums}
+use Rattle.ms_c.specs.Member.{MemberState, IsFirst, Splits, AnswersNew, TellsPool, Purges}
 use Rattle.ms_c.specs.Member.{FindsRun}
-use Rattle.ms_c.specs.Taking.{AnswersNewArenas}
+use Rattle.ms_c.specs.Taking.{AnswersNewArenas, AreTheirSums, HasNoLoader}
 
 -- The member is answered so.
 pub record Called (is : MemberState → Option Reply → MemberState → Type 0) (before : MemberState) (answer : Answer)
@@ -147,10 +147,10 @@ pub record TellsIts (seat : Seated) (sums : LoaderSums) : Type 0 where
   pub member : MemberState
   pub totals : LoaderTotals
   pub is : seat ≡ Some member
-  pub are : AreItsSums member totals
+  pub are : AreTheirSums member.arenas member totals
   pub told : sums ≡ loader_told totals
 
 pub record HasNone (seat : Seated) : Type 0 where
   pub member : MemberState
   pub is : seat ≡ Some member
-  pub none : member.loader ≡ None
+  pub none : HasNoLoader member

@@ -10,13 +10,15 @@ use Rattle.ms_base.specs.declared.step.Reply.{Reply}
 use Rattle.ms_base.specs.declared.step.Reply.TheVariants.{Ok as Done, At, Refused}
 use Rattle.ms_base.specs.Totals.{used_of}
 use Rattle.ms_loaders.specs.Loader.{LoaderView}
+use Rattle.ms_loaders.specs.declared.system.sums.LoaderTotals.{LoaderTotals}
 use Rattle.ms_arena.specs.Arena.{account_of, PlaceRefused, IsNotLive}
 use Rattle.ms_shared.specs.declared.lock_rule.SeatView.{SeatView}
 use Rattle.ms_shared.specs.SeatView.{HeldState}
 use Rattle.ms_shared.specs.LockCalls.{ClosedBothHeld}
 use Rattle.ms_c.specs.declared.member.arenas.Arenas.{Arenas}
 use Rattle.ms_c.specs.Arenas.{ServesArenas, OpensArenas, TakesOver, PlacesOwn, GivesBlock, arena_in}
-use Rattle.ms_c.specs.Member.{MemberState, LacksPool, MakesNone, AnswersUnload, used_of_it, block_told}
+use Rattle.ms_c.specs.Arenas.{AreArenasSums}
+use Rattle.ms_c.specs.Member.{MemberState, LacksPool, MakesNone, AnswersUnload, AreItsSums, used_of_it, block_told}
 
 -- A seat serves the arenas that there are.
 abbrev pub ServesAny : SeatView → Option Arenas → Type 0
@@ -72,6 +74,15 @@ AnswersUnloadAny old reply new = AnswersUnloadOf old.arenas old reply new
 abbrev pub used_of_them : Option Arenas → Option LoaderView → ℕ
 used_of_them None loader = used_of_it loader
 used_of_them (Some arenas) loader = used_of arenas.arena.books + used_of arenas.class_arena.books
+
+-- The totals are the sums of the loader that there is, with names or without.
+abbrev pub AreTheirSums : Option Arenas → MemberState → LoaderTotals → Type 0
+AreTheirSums None member totals = AreItsSums member totals
+AreTheirSums (Some arenas) member totals = AreArenasSums arenas totals
+
+-- There is none.
+abbrev pub HasNoLoader : MemberState → Type 0
+HasNoLoader member = (member.loader ≡ None) × (member.arenas ≡ None)
 
 -- The arenas are asked for a block over the pool that a seat has.
 pub record AsksArenas (space : Space) (words : ℕ) (held : HeldState) (old : Arenas) (reply : Reply)

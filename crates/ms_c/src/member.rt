@@ -10,8 +10,8 @@
 ghost use Rattle.std.specs.Prelude.{◌≡◌, IsTrue, IsFalse, IfSome, IfNone, None, length, map};
 ghost use Rattle.std.specs.List.{All, range_with_len};
 ghost use Rattle.std.specs.Arc.{arc_value};
-ghost use Rattle.ms_c.specs.Member.{free_seat, Holds, LetsGo, LacksPool, TellsPool, granule_at, AreItsSums};
-ghost use Rattle.ms_c.specs.Taking.{used_of_them};
+ghost use Rattle.ms_c.specs.Member.{free_seat, Holds, LetsGo, LacksPool, TellsPool, granule_at};
+ghost use Rattle.ms_c.specs.Taking.{used_of_them, AreTheirSums, HasNoLoader};
 ghost use Rattle.ms_c.specs.Member.{FindsRun};
 
 mod arenas;
@@ -22,7 +22,7 @@ mod taking;
 
 use crate::granules::next_run;
 use crate::runs::Run;
-use arenas::Arenas;
+use arenas::{Arenas, totals_of};
 use ms_loaders::{Loader, LoaderTotals};
 use ms_shared::{HeldSeat, PoolSeat, SharedPool};
 use std::alloc::Global;
@@ -166,12 +166,15 @@ impl Member {
         }
     }
 
-    /// Returns the kind of the loader and the sums over each of its arenas, where there is one. Takes
-    /// no memory, visits each of its chunks once, and no block.
+    /// Returns the kind of the loader, with names or without, and the sums over each of its arenas,
+    /// where there is one. Takes no memory, visits each of its chunks once, and no block.
     pub fn totals(&self) -> Option<LoaderTotals>
-        ensures sums { IfSome result (AreItsSums self.now) }
-        ensures none { IfNone result (self.now.loader ≡ None) }
+        ensures sums { IfSome result (AreTheirSums self.now.arenas self.now) }
+        ensures none { IfNone result (HasNoLoader self.now) }
     {
+        if let Some(arenas) = &self.arenas {
+            return Some(totals_of(arenas));
+        }
         let Some(loader) = &self.loader else {
             return None;
         };

@@ -13,9 +13,11 @@ ghost use Rattle.ms_arena.specs.Alloc.{Allocates};
 ghost use Rattle.ms_shared.specs.SeatView.{ServesBy, opened_by};
 ghost use Rattle.ms_shared.specs.LockCalls.{TookHeld, GrewHeld, OpenedBothHeld, ClosedBothHeld};
 ghost use Rattle.ms_c.specs.Arenas.{ServesArenas, OpensArenas, TakesOver, PlacesOwn, GivesBlock, arena_in};
+ghost use Rattle.ms_c.specs.Arenas.{AreArenasSums};
 
 use ms_arena::Arena;
 use ms_base::{Block, Kind, Refusal, Space};
+use ms_loaders::LoaderTotals;
 use ms_pool::{AccountSource, ChunkSource};
 use ms_shared::{HeldSeat, SharedPool};
 use std::alloc::Global;
@@ -134,5 +136,16 @@ pub fn give(arenas: &mut Arenas, space: Space, block: Block) -> Result<(), Refus
     match space {
         Space::NonClass => arenas.arena.free(block),
         Space::Class => arenas.class_arena.free(block),
+    }
+}
+
+/// Returns the kind of the loader and the sums over both arenas. Visits each of their chunks once.
+pub fn totals_of(arenas: &Arenas) -> LoaderTotals
+    ensures { AreArenasSums arenas.now result }
+{
+    LoaderTotals {
+        kind: arenas.arena.kind(),
+        space: arenas.arena.totals(),
+        class_space: arenas.class_arena.totals(),
     }
 }
