@@ -2,8 +2,8 @@
  *
  *     costs WAY BLOCKS WORDS ROUNDS      the least of so many rounds, each with a loader, or a buffer, of its own
  *
- * WAY is `number`, a block by a number in a seat's loader; `unnamed`, one by start and words; `system`, by a number in a handle's
- * loader; `malloc`; or `bump`, a pointer that rises in a buffer. No word is written. For costs.py. */
+ * WAY is `number`, a block by a number in a seat's loader; `unnamed`, one by start and words; `bare`, the same without a list of
+ * live blocks; `system`, by a number in a handle's loader; `malloc`; or `bump`, a pointer that rises in a buffer. No word is written. For costs.py. */
 #include <stdint.h>
 #include <stdio.h>
 #include <stdlib.h>
@@ -68,6 +68,15 @@ static void unnamed_give(uint64_t block) {
     refused += nizgrabul_seat_give(&seat, false, starts[block], words).status != NIZGRABUL_DONE;
 }
 
+static void bare_begin(void) {
+    share();
+    check(nizgrabul_seat_new_bare(&seat, NIZGRABUL_STANDARD), 0);
+    nizgrabul_seat_let_go(&seat);
+}
+static void bare_give(uint64_t block) {
+    refused += nizgrabul_seat_give_bare(&seat, false, starts[block], words).status != NIZGRABUL_DONE;
+}
+
 static void system_begin(void) {
     refused += nizgrabul_new(&options, &handle) != NIZGRABUL_DONE;
     check(nizgrabul_new_loader(&handle, 1, NIZGRABUL_STANDARD), 0);
@@ -93,6 +102,7 @@ static const struct way {
 } ways[] = {
     {"number", number_begin, number_take, number_give, end},
     {"unnamed", unnamed_begin, unnamed_take, unnamed_give, end},
+    {"bare", bare_begin, unnamed_take, bare_give, end},
     {"system", system_begin, system_take, system_give, system_end},
     {"malloc", nothing, malloc_take, malloc_give, nothing},
     {"bump", bump_begin, bump_take, bump_give, nothing},

@@ -17,7 +17,7 @@ import tempfile
 
 HERE = os.path.dirname(os.path.abspath(__file__))
 TOP = os.path.dirname(HERE)
-WAYS = ("number", "unnamed", "system", "malloc", "bump")
+WAYS = ("number", "unnamed", "bare", "system", "malloc", "bump")
 TURNS = 5
 WHITE_BOX = """package sun.hotspot;
 public class WhiteBox {

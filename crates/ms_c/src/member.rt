@@ -11,10 +11,12 @@ ghost use Rattle.std.specs.Prelude.{◌≡◌, IsTrue, IsFalse, IfSome, IfNone, 
 ghost use Rattle.std.specs.List.{All, range_with_len};
 ghost use Rattle.std.specs.Arc.{arc_value};
 ghost use Rattle.ms_c.specs.Member.{free_seat, Holds, LetsGo, LacksPool, TellsPool, granule_at};
-ghost use Rattle.ms_c.specs.Taking.{used_of_them, AreTheirSums, HasNoLoader};
+ghost use Rattle.ms_c.specs.Taking.{used_of_them, AreTheirSums, KnowsNoBlocks};
 ghost use Rattle.ms_c.specs.Member.{FindsRun};
 
 mod arenas;
+mod bare;
+mod hosted;
 mod loading;
 mod place;
 mod sharing;
@@ -22,7 +24,7 @@ mod taking;
 
 use crate::granules::next_run;
 use crate::runs::Run;
-use arenas::{Arenas, totals_of};
+use hosted::{Hosted, hosted_totals, words_used};
 use ms_loaders::{Loader, LoaderTotals};
 use ms_shared::{HeldSeat, PoolSeat, SharedPool};
 use std::alloc::Global;
@@ -42,7 +44,7 @@ pub struct Member {
     // The loader.
     loader: Option<Loader>,
     // The arenas of a loader without names, in its place.
-    arenas: Option<Arenas>,
+    arenas: Option<Hosted>,
 }
 
 impl Drop for Member {
@@ -158,7 +160,7 @@ impl Member {
         ensures { result ≡ used_of_them self.now.arenas self.now.loader }
     {
         if let Some(arenas) = &self.arenas {
-            return arenas.arena.used() + arenas.class_arena.used();
+            return words_used(arenas);
         }
         match &self.loader {
             Some(loader) => loader.used(),
@@ -167,13 +169,14 @@ impl Member {
     }
 
     /// Returns the kind of the loader, with names or without, and the sums over each of its arenas,
-    /// where there is one. Takes no memory, visits each of its chunks once, and no block.
+    /// where there is one that knows its blocks. Takes no memory, visits each of its chunks once, and
+    /// no block.
     pub fn totals(&self) -> Option<LoaderTotals>
         ensures sums { IfSome result (AreTheirSums self.now.arenas self.now) }
-        ensures none { IfNone result (HasNoLoader self.now) }
+        ensures none { IfNone result (KnowsNoBlocks self.now) }
     {
         if let Some(arenas) = &self.arenas {
-            return Some(totals_of(arenas));
+            return hosted_totals(arenas);
         }
         let Some(loader) = &self.loader else {
             return None;
