@@ -1,7 +1,7 @@
 -- Arenas without names whose blocks come and go are arenas of the same accounts' owners, and the seat
 -- serves them still.
 use Rattle.std.proofs.Common.{◌≡◌, ◌≢◌, ◌<◌, ℕ, Bool, true, false, Option, Some, None, Result, Ok, Err, refl, sym, ap}
-use Rattle.std.proofs.Common.{◌∙◌, subst, inl, inr, IfOk, []}
+use Rattle.std.proofs.Common.{◌∙◌, ◌+◌, subst, inl, inr, IfOk, [], arith}
 use Rattle.ms_base.specs.declared.kind.Kind.{Kind}
 use Rattle.ms_base.specs.declared.kind.Space.{Space}
 use Rattle.ms_base.specs.declared.kind.Space.TheVariants.{NonClass, Class}
@@ -20,7 +20,8 @@ use Rattle.ms_arena.specs.Alloc.{TakeRelation, GrowRelation, TakesNew, AfterTake
 use Rattle.ms_arena.specs.Alloc.{Allocates}
 use Rattle.ms_arena.specs.Raw.{live_with}
 use Rattle.ms_shared.specs.declared.lock_rule.SeatView.{SeatView}
-use Rattle.ms_shared.specs.SeatView.{ServesBy, opened_by}
+use Rattle.ms_shared.specs.SeatView.{SeatState, ServesBy, opened_by}
+use Rattle.ms_shared.specs.LockCalls.{OpenedBothOver}
 use Rattle.ms_c.specs.declared.member.arenas.Arenas.{Arenas}
 use Rattle.ms_c.specs.declared.member.bare.BareArenas.{BareArenas}
 use Rattle.ms_c.specs.declared.member.hosted.Hosted.{Hosted}
@@ -31,7 +32,7 @@ use Rattle.ms_c.specs.Hosted.{bare_in, with_bare, shown, new_hosted, PlacesBare,
 use Rattle.ms_base.specs.declared.step.Reply.{Reply}
 use Rattle.ms_base.specs.declared.step.Reply.TheVariants.{Ok as Done, At, Value, Refused}
 use Rattle.ms_loaders.proofs.steps.OutcomeLemmas.{placed_chunks}
-use Rattle.ms_c.specs.Taking.{AnswersOwn, AnswersGiving}
+use Rattle.ms_c.specs.Taking.{AnswersOwn, AnswersGiving, FreesOf}
 
 -- An arena keeps its owner and its space.
 abbrev Keeps : ArenaView → ArenaView → Type 0
@@ -212,24 +213,39 @@ serves_giving space block knows (Bare old) new Done none its = absurd none
 serves_giving space block knows (Bare old) new (At start) none its = absurd none
 serves_giving space block knows (Bare old) new (Value value) none its = absurd none
 
+pub serves_freed_of : (space : Space) (block : Block) (knows : SeatView) (old new : Hosted) (reply : Reply)
+    → FreesOf space block old reply new → ServesArenas knows (shown old) → ServesArenas knows (shown new)
+serves_freed_of space block knows (Bare old) (Bare new) Done gives its =
+    serves_given_bare space block knows old new gives its
+serves_freed_of space block knows (Bare old) (Known new) Done none its = absurd none
+serves_freed_of space block knows (Bare old) new (Refused refusal) none its = absurd none
+serves_freed_of space block knows (Bare old) new (At start) none its = absurd none
+serves_freed_of space block knows (Bare old) new (Value value) none its = absurd none
+serves_freed_of space block knows (Known old) new (Refused refusal) refused its =
+    subst (λ (arenas : Hosted). ServesArenas knows (shown arenas)) (sym refused.1) its
+serves_freed_of space block knows (Known old) new Done none its = absurd none
+serves_freed_of space block knows (Known old) new (At start) none its = absurd none
+serves_freed_of space block knows (Known old) new (Value value) none its = absurd none
+
 -- Arenas that were opened are served, whether they know their blocks or not.
-pub serves_opened : (is_bare : Bool) (accounts : AccountState × AccountState) (kind : Kind) (knows : SeatView)
-    → ServesBy knows accounts.0 → ServesBy knows accounts.1 → accounts.0.space ≡ NonClass → accounts.1.space ≡ Class
-    → ((space : Space) → 0 < opened_by knows space) → accounts.0.owner ≢ accounts.1.owner
-    → ServesArenas knows (shown (new_hosted is_bare accounts kind))
-serves_opened true accounts kind knows first second space class_space counted apart = record {
+pub serves_opened : (is_bare : Bool) (kind : Kind) (old new : SeatState) (accounts : AccountState × AccountState)
+    → OpenedBothOver old (Ok accounts) new → ServesBy new.knows accounts.0 → ServesBy new.knows accounts.1
+    → accounts.0.space ≡ NonClass → accounts.1.space ≡ Class
+    → ((space : Space) → opened_by new.knows space ≡ opened_by old.knows space + 1)
+    → ServesArenas new.knows (shown (new_hosted is_bare accounts kind))
+serves_opened true kind old new accounts opened first second space class_space counts = record {
   served = first;
   class_served = second;
   space = space;
   class_space = class_space;
-  counted = counted;
-  apart = apart;
+  counted = λ one. omega (arith, counts one);
+  apart = λ e. omega (arith, e, ap (λ (a : AccountState × AccountState). a.1.owner) opened.new_are);
 }
-serves_opened false accounts kind knows first second space class_space counted apart = record {
+serves_opened false kind old new accounts opened first second space class_space counts = record {
   served = first;
   class_served = second;
   space = space;
   class_space = class_space;
-  counted = counted;
-  apart = apart;
+  counted = λ one. omega (arith, counts one);
+  apart = λ e. omega (arith, e, ap (λ (a : AccountState × AccountState). a.1.owner) opened.new_are);
 }

@@ -1,23 +1,28 @@
 -- What a raw arena's calls do is what a bare one's are said to do; and a block that may be live may be
 -- freed.
 use Rattle.std.proofs.Common.{◌≡◌, ◌≤◌, ◌<◌, ℕ, true, false, Option, Some, None, Result, Ok, Err, List, [], ◌∷◌, ◌++◌}
-use Rattle.std.proofs.Common.{length, refl, sym, ap, ◌∙◌, subst, arith, IfOk, IfSome, IfNone, length-append}
+use Rattle.std.proofs.Common.{length, refl, sym, ap, ◌∙◌, subst, arith, IfOk, IfSome, IfNone, OnErr, length-append}
 use Rattle.std.proofs.lemmas.Bool.{or_parts}
 use Rattle.std.proofs.lemmas.Bool.Decides.{nat_tests}
 use Rattle.std.proofs.lemmas.List.Folds.{list_any-append}
 use Rattle.ms_base.specs.declared.kind.Kind.{Kind}
+use Rattle.ms_base.specs.declared.kind.Space.{Space}
 use Rattle.ms_base.specs.declared.span.Block.{Block}
+use Rattle.ms_base.specs.declared.refusal.Refusal.{Refusal}
 use Rattle.ms_base.specs.Interval.{meet, meets_any}
 use Rattle.ms_base.specs.Names.{named, without}
-use Rattle.ms_base.specs.State.{ArenaState, empty_arena}
+use Rattle.ms_base.specs.State.{ArenaState}
 use Rattle.ms_base.specs.Good.{IsSound}
 use Rattle.ms_base.proofs.arena.KeptLemmas.{Fits, IsTakenOut, sound_with_live, sound_with_kept, live_taken_out}
 use Rattle.ms_base.proofs.entries.EntryLemmas.{Split, split_at, Gap, gap_at}
 use Rattle.ms_blocks.specs.FreeBlocks.{run_of}
 use Rattle.ms_pool.specs.Account.{AccountState}
+use Rattle.ms_arena.specs.Arena.{Places}
 use Rattle.ms_arena.specs.Books.{Awaits}
-use Rattle.ms_arena.specs.Raw.{RawView, Gains, FreesRun, IsNewRaw}
-use Rattle.ms_c.specs.Bare.{BareView, bare_of, new_bare, MayHave, MayHaveBlock, GainsLive, FreesLive}
+use Rattle.ms_arena.specs.Raw.{RawView, Gains, FreesRun, IsNewRaw, IsSameRaw, live_with}
+use Rattle.ms_c.specs.declared.member.bare.BareArenas.{BareArenas}
+use Rattle.ms_c.specs.Bare.{BareView, bare_of, arena_with, new_bare, MayHave, MayHaveBlock, GainsLive, FreesLive}
+use Rattle.ms_c.specs.Hosted.{bare_in, with_bare, PlacesBare}
 
 -- One that has nothing yet.
 pub new_shows : (account : AccountState) (kind : Kind) (raw : RawView) → account.chunks ≡ [] → IsNewRaw account kind raw
@@ -81,6 +86,42 @@ gains_live old new block gains runs may = record {
 
     awaits : Awaits new.books (gap.before ++ gap.after) run
     awaits = subst (λ (l : List (ℕ × ℕ)). Awaits new.books l run) gap.is (gains.awaits.each runs may.sound)
+
+-- What its calls answer.
+pub gains_placed : (old new : RawView) (answer : Result (Option Block) Refusal)
+    → IfOk answer (λ found. IfSome found (λ block. Gains old block new))
+    → IfOk answer (λ found. IfSome found (λ block. GainsLive (bare_of old) block (bare_of new)))
+gains_placed old new (Ok (Some block)) gains = gains_live old new block gains
+gains_placed old new (Ok None) gains = tt
+gains_placed old new (Err refusal) gains = tt
+
+pub gains_asked : (old new : RawView) (answer : Result Block Refusal) → IfOk answer (λ block. Gains old block new)
+    → IfOk answer (λ block. GainsLive (bare_of old) block (bare_of new))
+gains_asked old new (Ok block) gains = gains_live old new block gains
+gains_asked old new (Err refusal) gains = tt
+
+pub none_placed : (old new : RawView) (answer : Result (Option Block) Refusal)
+    → IfOk answer (λ found. IfNone found (IsSameRaw old new))
+    → IfOk answer (λ found. IfNone found (bare_of new ≡ bare_of old))
+none_placed old new (Ok None) same = ap bare_of same.rest
+none_placed old new (Ok (Some block)) same = tt
+none_placed old new (Err refusal) same = tt
+
+pub stays_bare : {X : Type 0} (old new : RawView) (answer : Result X Refusal) → OnErr answer (IsSameRaw old new)
+    → OnErr answer (bare_of new ≡ bare_of old)
+stays_bare old new (Err refusal) same = ap bare_of same.rest
+stays_bare old new (Ok x) same = tt
+
+-- What bare arenas place.
+pub placed_bare : (space : Space) (words : ℕ) (old : BareArenas) (is : BareView) (answer : Result (Option Block) Refusal)
+    → ((live : List (ℕ × List ℕ)) → IfOk answer
+    (λ found. Places (arena_with (bare_in space old) live) words found (arena_with is (live_with live found))))
+    → IfOk answer (λ found. IfSome found (λ block. GainsLive (bare_in space old) block is))
+    → IfOk answer (λ found. IfNone found (is ≡ bare_in space old))
+    → IfOk answer (λ found. PlacesBare space words old found (with_bare space old is))
+placed_bare space words old is (Ok found) places gains none =
+    record { is = is; places = places; gains = gains; none = none; new_is = refl }
+placed_bare space words old is (Err refusal) places gains none = tt
 
 -- One goes that may be live.
 sound_alone : (arena : ArenaState) (runs : List (ℕ × ℕ)) → IsSound arena runs → IsSound arena []

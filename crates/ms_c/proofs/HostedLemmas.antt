@@ -13,8 +13,8 @@ use Rattle.ms_c.specs.declared.member.hosted.Hosted.{Hosted}
 use Rattle.ms_c.specs.Arenas.{ServesArenas}
 use Rattle.ms_c.specs.Hosted.{shown}
 use Rattle.ms_c.specs.Member.{IsSeated, HostsArenas, AnswersOver, AnswersWithout, FreesIn}
-use Rattle.ms_c.specs.Taking.{ServesAny, TakesAny, TakesAlone, GivesAny}
-use Rattle.ms_c.proofs.ArenasLemmas.{serves_own, serves_giving}
+use Rattle.ms_c.specs.Taking.{ServesAny, TakesAny, TakesAlone, GivesAny, FreesAny}
+use Rattle.ms_c.proofs.ArenasLemmas.{serves_own, serves_giving, serves_freed_of}
 use Rattle.ms_c.proofs.SeatedLemmas.{has_it}
 
 -- A seat hosts arenas: alone, and with the pool.
@@ -197,6 +197,15 @@ hosts_given space block None new one held loader reply gives its =
 hosts_given space block (Some old) new one held loader reply gives its =
     hosts_changed old gives.0 new one held loader gives.1
     (λ knows. serves_giving space block knows old gives.0 reply gives.2) its
+
+pub hosts_freed_of : (space : Space) (block : Block) (arenas new : Option Hosted) (one : Option SeatState)
+    (held : Option HeldState) (loader : Option LoaderView) (reply : Reply)
+    → FreesAny space block arenas reply new → HostsArenas arenas one held loader → HostsArenas new one held loader
+hosts_freed_of space block None new one held loader reply gives its =
+    subst (λ (a : Option Hosted). HostsArenas a one held loader) (sym gives.1) tt
+hosts_freed_of space block (Some old) new one held loader reply gives its =
+    hosts_changed old gives.0 new one held loader gives.1
+    (λ knows. serves_freed_of space block knows old gives.0 reply gives.2) its
 
 none_taken : (space : Space) (words : ℕ) (held now : HeldState) (arenas new : Option Hosted) (reply : Reply)
     → TakesAny space words held arenas reply new now → arenas ≡ None → new ≡ None

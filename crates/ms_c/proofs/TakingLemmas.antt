@@ -23,7 +23,7 @@ use Rattle.ms_c.specs.Hosted.{bare_in, with_bare, PlacesBare, PlacesHosted, Know
 use Rattle.ms_c.specs.Member.{MemberState, AnswersUnload, block_told}
 use Rattle.ms_c.specs.Taking.{TakesAny, TakesAlone, AnswersOwn, GivesAny, AnswersGiving, placed_told}
 use Rattle.ms_c.specs.Taking.{AnswersTake, AnswersGive, TakesBlock, AnswersUnloadArenas, AnswersUnloadOf}
-use Rattle.ms_c.specs.Taking.{AnswersGiveBare, GivesAnyBare, FreesOf}
+use Rattle.ms_c.specs.Taking.{AnswersGiveBare, FreesAny, FreesOf}
 
 -- What the arenas answer without the pool.
 same_with : (space : Space) (old : Arenas) → with_arena space old (arena_in space old) ≡ old
@@ -194,25 +194,40 @@ module _ (space : Space) (block : Block) (old new : MemberState) where
   give_answers reply is new_is its = gives reply old.arenas is refl new_is its
 
   -- So it is of bare arenas.
-  freed_so : (one is : Option Hosted) → old.arenas ≡ one → new ≡ record old { arenas = is }
-      → FreesOf space block one is → AnswersGiveBare space block old (Some Done) new
-  freed_so (Some (Bare arenas)) (Some (Bare is)) found new_is its =
+  freed_so : (reply : Reply) (arenas is : Hosted) → old.arenas ≡ Some arenas
+      → new ≡ record old { arenas = Some is } → FreesOf space block arenas reply is
+      → AnswersGiveBare space block old (Some reply) new
+  freed_so Done (Bare arenas) (Bare is) found new_is its =
       record { arenas = arenas; is = is; found = found; gives = its; new_is = new_is }
-  freed_so (Some (Bare arenas)) (Some (Known is)) found new_is its = absurd its
-  freed_so (Some (Bare arenas)) None found new_is its = absurd its
-  freed_so (Some (Known arenas)) is found new_is its = absurd its
-  freed_so None is found new_is its = absurd its
+  freed_so Done (Bare arenas) (Known is) found new_is its = absurd its
+  freed_so Done (Known arenas) is found new_is its = absurd its
+  freed_so (Refused refusal) (Known arenas) is found new_is its = (
+    its.0,
+    subst LeaveNone (sym found) tt,
+    new_is ∙ ap (λ (a : Hosted). record old { arenas = Some a }) its.1
+        ∙ ap (λ (a : Option Hosted). record old { arenas = a }) (sym found),
+  )
+  freed_so (Refused refusal) (Bare arenas) is found new_is its = absurd its
+  freed_so (At start) (Known arenas) is found new_is its = absurd its
+  freed_so (At start) (Bare arenas) is found new_is its = absurd its
+  freed_so (Value value) (Known arenas) is found new_is its = absurd its
+  freed_so (Value value) (Bare arenas) is found new_is its = absurd its
+
+  frees_so : (reply : Reply) (one is : Option Hosted) → old.arenas ≡ one → new ≡ record old { arenas = is }
+      → FreesAny space block one reply is → AnswersGiveBare space block old (Some reply) new
+  frees_so reply None is found new_is its =
+      subst (λ (r : Reply). AnswersGiveBare space block old (Some r) new) (sym its.0) (
+        refl,
+        subst LeaveNone (sym found) tt,
+        new_is ∙ ap (λ (a : Option Hosted). record old { arenas = a }) (its.1 ∙ sym found),
+      )
+  frees_so reply (Some arenas) is found new_is its =
+      freed_so reply arenas its.0 found
+      (new_is ∙ ap (λ (a : Option Hosted). record old { arenas = a }) its.1) its.2
 
   pub give_bare_answers : (reply : Reply) (is : Option Hosted) → new ≡ record old { arenas = is }
-      → GivesAnyBare space block old.arenas reply is → AnswersGiveBare space block old (Some reply) new
-  give_bare_answers Done is new_is its = freed_so old.arenas is refl new_is its
-  give_bare_answers (Refused refusal) is new_is its = (
-    its.0,
-    its.1,
-    new_is ∙ ap (λ (a : Option Hosted). record old { arenas = a }) its.2,
-  )
-  give_bare_answers (At start) is new_is its = absurd its
-  give_bare_answers (Value value) is new_is its = absurd its
+      → FreesAny space block old.arenas reply is → AnswersGiveBare space block old (Some reply) new
+  give_bare_answers reply is new_is its = frees_so reply old.arenas is refl new_is its
 
 -- Arenas that tell no sums know no block.
 pub tells_none : (arenas : Option Hosted) (is : Hosted) (totals : Option LoaderTotals) → arenas ≡ Some is

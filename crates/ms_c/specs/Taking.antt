@@ -210,11 +210,11 @@ AnswersGiveBare space block old (Some (Refused refusal)) new =
     (refusal ≡ NoLoader) × LeaveNone old.arenas × (new ≡ old)
 AnswersGiveBare space block old _ new = ⊥
 
-abbrev pub FreesOf : Space → Block → Option Hosted → Option Hosted → Type 0
-FreesOf space block (Some (Bare arenas)) (Some (Bare is)) = GivesBare space arenas block is
-FreesOf space block old new = ⊥
+abbrev pub FreesOf : Space → Block → Hosted → Reply → Hosted → Type 0
+FreesOf space block (Bare old) Done (Bare new) = GivesBare space old block new
+FreesOf space block (Known old) (Refused refusal) new = (refusal ≡ NoLoader) × (new ≡ Known old)
+FreesOf space block old _ new = ⊥
 
-abbrev pub GivesAnyBare : Space → Block → Option Hosted → Reply → Option Hosted → Type 0
-GivesAnyBare space block old Done new = FreesOf space block old new
-GivesAnyBare space block old (Refused refusal) new = (refusal ≡ NoLoader) × LeaveNone old × (new ≡ old)
-GivesAnyBare space block old _ new = ⊥
+abbrev pub FreesAny : Space → Block → Option Hosted → Reply → Option Hosted → Type 0
+FreesAny space block None reply new = (reply ≡ Refused NoLoader) × (new ≡ None)
+FreesAny space block (Some arenas) reply new = (is : Hosted) × (new ≡ Some is) × FreesOf space block arenas reply is

@@ -2,10 +2,10 @@
 //!
 //! A block is known by its space, its start and its words. As of a loader with names, what needs the
 //! pool needs that the seat has it, and returns none else.
-ghost use Rattle.std.specs.Prelude.{◌≡◌};
+ghost use Rattle.std.specs.Prelude.{◌≡◌, Some};
 ghost use Rattle.ms_c.specs.Hosted.{IsOwed};
 ghost use Rattle.ms_c.specs.Taking.{AnswersNewArenas, AnswersUnloadArenas, AnswersUnloadAny, AnswersTake, AnswersGive};
-ghost use Rattle.ms_c.specs.Taking.{AnswersGiveBare, GivesAnyBare};
+ghost use Rattle.ms_c.specs.Taking.{AnswersGiveBare, FreesAny, FreesOf};
 ghost use Rattle.ms_c.specs.declared.member.hosted.Hosted.TheVariants.{Known};
 ghost use Rattle.ms_c.specs.Taking.{ServesAny, TakesAny, TakesAlone, AnswersOwn, GivesAny, AnswersGiving, placed_told};
 
@@ -103,7 +103,7 @@ impl Member {
         requires { IsOwed space block self.old.arenas }
         ensures { AnswersGiveBare space block self.old result self.new }
     {
-        Some(give_any_bare(&mut self.arenas, space, block))
+        Some(free_any(&mut self.arenas, space, block))
     }
 }
 
@@ -179,16 +179,27 @@ fn give_hosted(arenas: &mut Hosted, space: Space, block: Block) -> Reply
 }
 
 /// Frees a block of bare arenas, where there are any.
-fn give_any_bare(arenas: &mut Option<Hosted>, space: Space, block: Block) -> Reply
+fn free_any(arenas: &mut Option<Hosted>, space: Space, block: Block) -> Reply
     requires { IsOwed space block arenas.old }
-    ensures { GivesAnyBare space block arenas.old result arenas.new }
+    ensures { FreesAny space block arenas.old result arenas.new }
 {
     match arenas {
-        Some(Hosted::Bare(arenas)) => {
+        None => Reply::Refused(Refusal::NoLoader),
+        Some(arenas) => free_hosted(arenas, space, block),
+    }
+}
+
+/// Frees a block of arenas that leave it to the program.
+fn free_hosted(arenas: &mut Hosted, space: Space, block: Block) -> Reply
+    requires { IsOwed space block (Some arenas.old) }
+    ensures { FreesOf space block arenas.old result arenas.new }
+{
+    match arenas {
+        Hosted::Known(_) => Reply::Refused(Refusal::NoLoader),
+        Hosted::Bare(arenas) => {
             give_bare(arenas, space, block);
             Reply::Ok
         }
-        Some(Hosted::Known(_)) | None => Reply::Refused(Refusal::NoLoader),
     }
 }
 
