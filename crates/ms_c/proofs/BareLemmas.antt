@@ -15,7 +15,6 @@ use Rattle.ms_base.specs.State.{ArenaState}
 use Rattle.ms_base.specs.Good.{IsSound}
 use Rattle.ms_base.proofs.arena.KeptLemmas.{Fits, IsTakenOut, sound_with_live, sound_with_kept, live_taken_out}
 use Rattle.ms_base.proofs.entries.EntryLemmas.{Split, split_at, Gap, gap_at}
-use Rattle.ms_blocks.specs.FreeBlocks.{run_of}
 use Rattle.ms_pool.specs.Account.{AccountState}
 use Rattle.ms_arena.specs.Arena.{Places}
 use Rattle.ms_arena.specs.Books.{Awaits}
@@ -130,7 +129,7 @@ sound_alone arena (run ∷ runs) sound = sound_alone arena runs (live_taken_out 
 
 pub record MayFree (raw : RawView) (block : Block) : Type 0 where
   pub some : 0 < raw.count
-  pub awaits : Awaits raw.books [] (run_of block)
+  pub awaits : Awaits raw.books [] (block.start, block.words)
 
 pub may_free : (raw : RawView) (block : Block) → MayHaveBlock (bare_of raw) block → MayFree raw block
 may_free raw block its = record {

@@ -244,11 +244,11 @@ hosts_new arenas None now (Some loader) alone none its = absurd (cc)
 
 -- So it is of a member whose arenas were opened over the pool that its seat has.
 pub hosts_made : (lock : LockState) (one : Option SeatState) (some : Option HeldState) (held now : HeldState)
-    (loader : Option LoaderView) (arenas : Hosted) {before : Option Hosted} {X : Type 0} → some ≡ Some held
+    (loader : Option LoaderView) (arenas : Hosted) (before : Option Hosted) (X : Type 0) → some ≡ Some held
     → loader ≡ None → now.seat.id ≡ held.seat.id → ServesArenas now.seat.knows (shown arenas)
     → IsSeated lock one some loader × HostsArenas before one some loader × X
     → IsSeated lock one (Some now) loader × HostsArenas (Some arenas) one (Some now) loader × X
-hosts_made lock one some held now loader arenas is none own serves its =
+hosts_made lock one some held now loader arenas before X is none own serves its =
     let had = has_it lock one some held loader is its.0 in (
       seated_bare lock one now loader had.alone none (own ∙ had.own),
       hosts_new arenas one now loader had.alone none serves,

@@ -1,6 +1,6 @@
 -- What the calls of a loader without names answer is what its member answers.
 use Rattle.std.proofs.Common.{◌≡◌, ℕ, Option, Some, None, Result, Ok, Err, refl, sym, ap, ◌∙◌, subst, inl, inr}
-use Rattle.std.proofs.Common.{IfOk, IfErr, OnErr, true, false, is_some}
+use Rattle.std.proofs.Common.{IfOk, IfErr, IfSome, IfNone, OnErr, true, false, is_some}
 use Rattle.ms_base.specs.declared.kind.Space.{Space}
 use Rattle.ms_base.specs.declared.kind.Space.TheVariants.{NonClass, Class}
 use Rattle.ms_base.specs.declared.span.Block.{Block}
@@ -23,7 +23,7 @@ use Rattle.ms_c.specs.Hosted.{bare_in, with_bare, PlacesBare, PlacesHosted, Know
 use Rattle.ms_c.specs.Member.{MemberState, AnswersUnload, block_told}
 use Rattle.ms_c.specs.Taking.{TakesAny, TakesAlone, AnswersOwn, GivesAny, AnswersGiving, placed_told}
 use Rattle.ms_c.specs.Taking.{AnswersTake, AnswersGive, TakesBlock, AnswersUnloadArenas, AnswersUnloadOf}
-use Rattle.ms_c.specs.Taking.{AnswersGiveBare, FreesAny, FreesOf}
+use Rattle.ms_c.specs.Taking.{AnswersGiveBare, FreesAny, FreesOf, AreTheirSums, KnowsNoBlocks}
 
 -- What the arenas answer without the pool.
 same_with : (space : Space) (old : Arenas) → with_arena space old (arena_in space old) ≡ old
@@ -229,12 +229,18 @@ module _ (space : Space) (block : Block) (old new : MemberState) where
       → FreesAny space block old.arenas reply is → AnswersGiveBare space block old (Some reply) new
   give_bare_answers reply is new_is its = frees_so reply old.arenas is refl new_is its
 
--- Arenas that tell no sums know no block.
-pub tells_none : (arenas : Option Hosted) (is : Hosted) (totals : Option LoaderTotals) → arenas ≡ Some is
-    → TellsSums is totals → totals ≡ None → KnowNone arenas
-tells_none arenas (Known is) None found its none = absurd its
-tells_none arenas (Known is) (Some totals) found its none = absurd (cc)
-tells_none arenas (Bare is) totals found its none = subst KnowNone (sym found) tt
+-- What arenas tell are the sums of the loader; and where they tell none they know no block.
+pub told_sums : (member : MemberState) (is : Hosted) (totals : Option LoaderTotals) → member.arenas ≡ Some is
+    → TellsSums is totals → IfSome totals (AreTheirSums member.arenas member)
+told_sums member is (Some totals) found its =
+    subst (λ (arenas : Option Hosted). AreTheirSums arenas member totals) (sym found) its
+told_sums member is None found its = tt
+
+pub told_none : (member : MemberState) (is : Hosted) (totals : Option LoaderTotals) → member.loader ≡ None
+    → member.arenas ≡ Some is → TellsSums is totals → IfNone totals (KnowsNoBlocks member)
+told_none member (Known is) None alone found its = absurd its
+told_none member (Bare is) None alone found its = (alone, subst KnowNone (sym found) tt)
+told_none member is (Some totals) alone found its = tt
 
 -- The loader that there is was unloaded.
 pub unloads_arenas : (arenas : Option Hosted) (old : MemberState) (reply : Option Reply) (new : MemberState)

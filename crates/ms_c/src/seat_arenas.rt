@@ -1,7 +1,7 @@
 //! The exports by which a seat's loader without names comes, takes blocks and gives them back.
 //!
 //! What C owes of a block that it gives back to a bare loader is the one `requires` of an export.
-ghost use Rattle.std.specs.Prelude.{◌≡◌};
+ghost use Rattle.std.specs.Prelude.{◌≡◌, true, false};
 ghost use Rattle.ms_c.specs.Taking.{AnswersNewArenas, AnswersTake, AnswersGive, AnswersGiveBare};
 ghost use Rattle.ms_arena.specs.Arena.{block_at};
 ghost use Rattle.ms_c.specs.Calls.{Calls, MakesArenasAt, IsOwedBy, space_of};

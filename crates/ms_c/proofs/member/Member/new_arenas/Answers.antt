@@ -18,8 +18,8 @@ returns-then-is_some-2 c =
 pub invariant_of-self-in-Ok : goal.invariant_of-self-in-Ok
 invariant_of-self-in-Ok c =
     let lock = arc_value c.self.inside.shared in let made = c.open_hosted-held in
-    hosts_made lock c.self.inside.seat c.self.inside.held c.in-Some.held made.result.0 c.self.inside.loader c.in-Ok.arenas
-    (sym c.in-Some.ensures.value) (none_there c.self.inside.loader (sym c.is_some.ensures ∙ c.if-is_some.false))
+    hosts_made lock c.self.inside.seat c.self.inside.held c.in-Some.held made.result.0 c.self.inside.loader c.in-Ok.arenas _
+    _ (sym c.in-Some.ensures.value) (none_there c.self.inside.loader (sym c.is_some.ensures ∙ c.if-is_some.false))
     made.ensures.own
     (subst (λ (r : Result Hosted Refusal). IfOk r (λ is. ServesArenas made.result.0.seat.knows (shown is))) c.in-Ok.is
     made.ensures.serves)

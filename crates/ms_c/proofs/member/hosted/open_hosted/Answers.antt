@@ -1,4 +1,5 @@
 use Rattle.std.proofs.Common.{sym, subst}
+use Rattle.ms_pool.specs.Account.{AccountState}
 use Rattle.ms_shared.specs.SeatView.{HeldState}
 use Rattle.ms_c.specs.declared.member.hosted.Hosted.{Hosted}
 use Rattle.ms_c.specs.Arenas.{ServesArenas}
@@ -10,7 +11,7 @@ use Rattle.ms_c.proofs.member.hosted.open_hosted.Goals as goal
 pub returns-in-Ok-clause-serves : goal.returns-in-Ok-clause-serves
 returns-in-Ok-clause-serves c =
     let now = c.open_both.new.self in let opened = c.in-Ok.ensures in
-    let accounts = (c.in-Ok.account, c.in-Ok.class_account) in
+    let accounts : AccountState × AccountState = (c.in-Ok.account, c.in-Ok.class_account) in
     subst (λ (hosted : Hosted). ServesArenas c.pause.result.seat.knows (shown hosted)) (sym c.hosted_over.ensures)
     (subst (λ (held : HeldState). ServesArenas held.seat.knows (shown (new_hosted c.args.is_bare accounts c.args.kind)))
     (sym c.pause.ensures)
