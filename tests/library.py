@@ -7,6 +7,7 @@ import os
 import re
 import shutil
 import subprocess
+import tempfile
 
 from claims import Skipped, Test, expect, first_difference
 from workbench import FOLDER, ROOT, compiler, tools
@@ -18,6 +19,9 @@ PREFIX = "nizgrabul_"
 WRAPPED = "-Wl,--wrap=malloc,--wrap=realloc,--wrap=free"
 SOURCES = os.path.join(ROOT, "crates", "ms_c", "src")
 MARKS = ("///", "/*", "*", "*/")
+# What a copy of the example has.
+COPIED = ("Makefile", "CMakeLists.txt", "nizgrabul.h", "nizgrabul.pc", "nizgrabul-config.cmake",
+          "nizgrabul-config-version.cmake", "calls.c", "runtime.c", "threads.c")
 # Variables of the environment that would have the Makefile do otherwise.
 OF_MAKE = ("LIBRARY", "TOOLCHAIN", "MAKEFLAGS", "MAKELEVEL")
 # A call of the header, one with its comment, and an export with its docs.
@@ -74,7 +78,7 @@ def example_tree(bench, name):
     folder, release = os.path.join(copy, "examples", "c"), os.path.join(copy, "release")
     for place in (folder, release):
         os.makedirs(place)
-    for file in ("Makefile", "nizgrabul.h", "nizgrabul.pc", "calls.c", "runtime.c", "threads.c"):
+    for file in COPIED:
         shutil.copy(os.path.join(EXAMPLES, file), folder)
     with open(os.path.join(release, "libms_c.a.xz"), "wb") as file:
         file.write(printed(["xz", "-c", ARCHIVE]))
@@ -106,6 +110,41 @@ def is_found_by_pkg_config(bench):
     program = os.path.join(folder, "installed_calls")
     printed([*compiler(), "-o", program, os.path.join(folder, "calls.c"), *words])
     expect_calls_answered(program)
+
+
+FOR_CMAKE = """cmake_minimum_required(VERSION 3.13)
+project(program LANGUAGES C)
+if(ADDED)
+  add_subdirectory("${{ADDED}}" nizgrabul)
+else()
+  find_package(nizgrabul {version} EXACT REQUIRED)
+endif()
+add_executable(program "{folder}/calls.c")
+target_link_libraries(program nizgrabul::nizgrabul)
+"""
+
+
+def is_found_by_cmake(bench):
+    """CMake finds it installed, by its version alone, or adds the example's folder; a program is built by its target."""
+    if not shutil.which("cmake"):
+        raise Skipped("cmake")
+    folder = example_tree(bench, "library_cmake")
+    others = {name: word for name, word in os.environ.items() if name not in OF_MAKE}
+    prefix, source = os.path.join(folder, "installed"), os.path.join(folder, "program")
+    printed(["make", "-C", folder, "install", f"PREFIX={prefix}"], env=others)
+    os.makedirs(source)
+    version = int(re.search(r"#define NIZGRABUL_VERSION (\d+)\n", header())[1])
+    for wanted, setting, finds in ((version, f"CMAKE_PREFIX_PATH={prefix}", True), (version, f"ADDED={folder}", True),
+                                   (version - 1, f"CMAKE_PREFIX_PATH={prefix}", False)):
+        with open(os.path.join(source, "CMakeLists.txt"), "w", encoding="ascii") as file:
+            file.write(FOR_CMAKE.format(version=wanted, folder=folder))
+        room = tempfile.mkdtemp(dir=folder)
+        how = ["cmake", "-S", source, "-B", room, f"-D{setting}", f"-DCMAKE_C_COMPILER={compiler()[0]}"]
+        made = subprocess.run(how, capture_output=True, env=others)
+        expect((made.returncode == 0) == finds, made.stdout, made.stderr)
+        if finds:
+            printed(["cmake", "--build", room], env=others)
+            expect_calls_answered(os.path.join(room, "program"))
 
 
 def makefile_says_what_is_missing(bench):
@@ -257,6 +296,7 @@ def tests():
     yield Test("library: each call answers from C", answers_each_call)
     yield Test("library: the example's Makefile builds it", is_made_by_its_makefile)
     yield Test("library: pkg-config finds it installed", is_found_by_pkg_config)
+    yield Test("library: CMake finds it and its target", is_found_by_cmake)
     yield Test("library: the Makefile says what is missing", makefile_says_what_is_missing)
     yield Test("library: real memory follows the account", commits_real_memory)
     yield Test("library: each call of a seat answers", answers_each_seat)

@@ -25,9 +25,9 @@
  *
  * Units. A word is 8 bytes. Words are numbered from 0, and so are granules and nodes, each from its first
  * word on: granule k begins at word k * 8192 (k * 2048 under the policy aggressive), node n at word
- * n * 1048576. Nodes outside the class space have the numbers from 0 on, below the option `nodes`; those of
+ * n * 1048576, so that a node has 128 granules (512 under aggressive). Nodes outside the class space have the numbers from 0 on, below the option `nodes`; those of
  * the class space have the numbers from 64 on. So a program reserves 64 + class_nodes times 8 MB of
- * addresses, or just nodes times 8 MB where class_nodes is 0.
+ * addresses, or just nodes times 8 MB where class_nodes is 0, and has flags for as many nodes' granules.
  *
  * What is committed. Granules become committed by allocations alone: nizgrabul_alloc_with_run and
  * nizgrabul_calloc_with_run return which. They cease to be by unload, purge and delete alone: a program has
@@ -48,6 +48,8 @@
  *     free                              seat_free               frees a block by its number
  *                                       seat_new_arenas         makes a class loader without numbers for its blocks
  *                                       seat_take, seat_give    allocates and frees a block of it by start and words
+ *                                       seat_new_bare           makes one that also keeps no list of its blocks
+ *                                       seat_give_bare          frees a block of it, which seat_take allocated
  *     free_block                                                frees a block by its start and words
  *     purge                             seat_purge              gives unused nodes back
  *     next_uncommitted                  seat_next_uncommitted   returns the granules to give back, run by run
@@ -63,10 +65,15 @@
  *     make -C examples/c libms_c.a
  *     cc -Iexamples/c program.c examples/c/libms_c.a "$(dirname "$(rt doc)")/c/liblibc_c.a"
  *
- * Or, once `make -C examples/c install PREFIX=/folder` has put all of it into a folder, by pkg-config, and so by
- * CMake's pkg_check_modules, with PKG_CONFIG_PATH=/folder/lib/pkgconfig:
+ * Or, once `make -C examples/c install PREFIX=/folder` has put all of it into a folder, by pkg-config, with
+ * PKG_CONFIG_PATH=/folder/lib/pkgconfig:
  *
  *     cc program.c $(pkg-config --cflags --libs nizgrabul)
+ *
+ * Or by CMake, with -DCMAKE_PREFIX_PATH=/folder; or with add_subdirectory(examples/c) in place of find_package:
+ *
+ *     find_package(nizgrabul 7 REQUIRED)
+ *     target_link_libraries(program nizgrabul::nizgrabul)
  *
  * What a program owes, since nothing checks it:
  * - A handle is filled with zeros before its first use. After that only these calls read or write it; it
@@ -83,7 +90,7 @@
 #define NIZGRABUL_H
 
 /* It rises where a call or a struct changes; nizgrabul_version returns that of the library. */
-#define NIZGRABUL_VERSION 6
+#define NIZGRABUL_VERSION 7
 
 #include <stdbool.h>
 #include <stddef.h>
@@ -357,9 +364,13 @@ uint32_t nizgrabul_loader_totals(nizgrabul_handle *handle, uint16_t loader, nizg
  * A pool ends with its last seat, and has at most 65536 of them; a seat whose loader was unloaded serves the next
  * one. There is no move of a loader between two seats: the seat moves.
  *
+ * - ThreadSanitizer, which does not see into the library, has to be told that the pool orders what its holders
+ *   do: __tsan_acquire(address) once a seat has it, and __tsan_release(address) before nizgrabul_seat_let_go.
+ *
  * A loader made by nizgrabul_seat_new_arenas has no numbers for its blocks. It knows its live blocks by where they
  * start, at a cost that does not grow with them: what is freed is named by space, start and words, and is refused
- * where it is no live block of that loader. */
+ * where it is no live block of that loader. One made by nizgrabul_seat_new_bare keeps no list of them: it costs
+ * least, and the program owes that what it frees is live. */
 
 /* Makes a pool with no loader, under the settings that the options name, for so many seats, 1 to 65536. `out`
  * gets the first seat, which has all others to spare. Returns IN_USE exactly where `out` has a seat already,
@@ -419,6 +430,11 @@ nizgrabul_answer nizgrabul_seat_free(nizgrabul_seat *seat, uint32_t block);
  * BAD_KIND. Refused with NO_SEAT, LOADER_EXISTS, NOT_HELD and IDS_USED_UP. Takes no memory. */
 nizgrabul_answer nizgrabul_seat_new_arenas(nizgrabul_seat *seat, uint32_t kind);
 
+/* Makes the seat's loader as nizgrabul_seat_new_arenas does, but that it keeps no list of its live blocks, which
+ * makes it cheaper: nizgrabul_seat_take allocates of it too, and nizgrabul_seat_give_bare frees. Refused as that
+ * call is. Takes no memory. */
+nizgrabul_answer nizgrabul_seat_new_bare(nizgrabul_seat *seat, uint32_t kind);
+
 /* Allocates a block of so many words, 1 to 524288, of the seat's loader without numbers; `value` is the word
  * where it starts, in the class space or outside it. One word makes a block of two. Where the seat has the
  * pool, granules may become committed. Where it doesn't, no lock is tried: the block comes of the committed
@@ -430,8 +446,14 @@ nizgrabul_answer nizgrabul_seat_take(nizgrabul_seat *seat, bool class_space, uin
 /* Frees the live block of the seat's loader without numbers that starts there and has so many words, at least
  * two: its words become a free block of the loader. No granule changes, and the pool isn't needed. Refused with
  * NO_SEAT, NO_LOADER, and with NOT_LIVE exactly where the loader has no such live block in that space, and then
- * nothing changes. Takes no memory. */
+ * nothing changes; a bare loader is refused with NO_LOADER. Takes no memory. */
 nizgrabul_answer nizgrabul_seat_give(nizgrabul_seat *seat, bool class_space, uint64_t start, uint64_t words);
+
+/* Frees a block of the seat's bare loader, as nizgrabul_seat_give does of another. The program owes that
+ * nizgrabul_seat_take returned that start for so many words, or for one where these are two, in that space, to
+ * this loader, and that the block was not given back since: nothing checks it. Refused with NO_SEAT, and with
+ * NO_LOADER where there is no bare loader. Takes no memory. */
+nizgrabul_answer nizgrabul_seat_give_bare(nizgrabul_seat *seat, bool class_space, uint64_t start, uint64_t words);
 
 /* Gives the nodes of the pool that the seat has back in which no chunk is held; `value` is how many they
  * were. Those of the class space stay. No granule of a node that went is committed; only under the policy
@@ -442,9 +464,9 @@ nizgrabul_answer nizgrabul_seat_purge(nizgrabul_seat *seat);
  * where there is none. Takes no memory. */
 uint64_t nizgrabul_seat_used(nizgrabul_seat *seat);
 
-/* Writes the sums of the seat's loader to `out`. Returns DONE, NO_SEAT, or NO_LOADER where there is none with
- * numbers; all but DONE leave `out` as it was. Takes no memory; visits each chunk of the loader, and no block.
- * */
+/* Writes the sums of the seat's loader, with numbers for its blocks or without, to `out`. Returns DONE, NO_SEAT,
+ * or NO_LOADER where there is none, or a bare one; all but DONE leave `out` as it was. Takes no memory; visits
+ * each chunk of the loader, and no block. */
 uint32_t nizgrabul_seat_totals(nizgrabul_seat *seat, nizgrabul_sums_of_loader *out);
 
 /* Writes to `out` of each granule from `first` on, as many as it has places, whether it is committed in the

@@ -44,6 +44,7 @@ void __wrap_free(void *block) {
 /* Blocks that are known by their starts. */
 static void run_without_numbers(void) {
     nizgrabul_options options = {.nodes = 1, .class_nodes = 1, .max_granules = 2, .policy = NIZGRABUL_BALANCED};
+    nizgrabul_sums_of_loader sums = {.kind = 7};
     nizgrabul_seat own = {0}, *a = &own;
     nizgrabul_answer block;
     TAKES(nizgrabul_share(&options, 1, a), DONE);
@@ -57,6 +58,10 @@ static void run_without_numbers(void) {
     IS(block.value == 0);
     TAKES((block = nizgrabul_seat_take(a, true, 1)).status, DONE);
     IS(block.value == 67108864 && nizgrabul_seat_used(a) == 102);
+    ANSWERS(nizgrabul_seat_totals(a, &sums), DONE);
+    IS(sums.kind == 0 && sums.space.chunks == 1 && sums.space.used == 100 && sums.space.live == 100);
+    IS(sums.class_space.chunks == 1 && sums.class_space.used == 2 && sums.class_space.live == 2);
+    ANSWERS(nizgrabul_seat_give_bare(a, false, 0, 100).status, NO_LOADER);
     ANSWERS(nizgrabul_seat_let_go(a), DONE);
     ANSWERS(nizgrabul_seat_give(a, false, block.value, 2).status, NOT_LIVE);
     ANSWERS(nizgrabul_seat_give(a, true, block.value, 1).status, NOT_LIVE);
@@ -70,6 +75,50 @@ static void run_without_numbers(void) {
     ANSWERS(nizgrabul_seat_take(a, false, 0).status, ZERO_WORDS);
     ANSWERS(nizgrabul_seat_take(a, false, 600000).status, TOO_LARGE);
     ANSWERS(nizgrabul_seat_give(a, false, 0, 100).status, DONE);
+    TAKES((block = nizgrabul_seat_take(a, false, 100)).status, DONE);
+    IS(block.value == 0 && nizgrabul_seat_used(a) == 514);
+    ANSWERS(nizgrabul_seat_unload(a).status, NOT_HELD);
+    ANSWERS(nizgrabul_seat_hold(a), DONE);
+    TAKES(nizgrabul_seat_take(a, false, 8193).status, COMMIT_LIMIT);
+    ANSWERS(nizgrabul_seat_unload(a).status, DONE);
+    ANSWERS(nizgrabul_seat_unload(a).status, NO_LOADER);
+    IS(nizgrabul_seat_used(a) == 0);
+    nizgrabul_seat_end(a);
+}
+
+/* Blocks that the program alone knows. */
+static void run_bare(void) {
+    nizgrabul_options options = {.nodes = 1, .class_nodes = 1, .max_granules = 2, .policy = NIZGRABUL_BALANCED};
+    nizgrabul_sums_of_loader sums = {.kind = 7};
+    nizgrabul_seat own = {0}, *a = &own;
+    nizgrabul_answer block;
+    ANSWERS(nizgrabul_seat_new_bare(a, 0).status, NO_SEAT);
+    ANSWERS(nizgrabul_seat_give_bare(a, false, 0, 2).status, NO_SEAT);
+    TAKES(nizgrabul_share(&options, 1, a), DONE);
+    ANSWERS(nizgrabul_seat_new_bare(a, 4).status, BAD_KIND);
+    ANSWERS(nizgrabul_seat_new_bare(a, 0).status, NOT_HELD);
+    ANSWERS(nizgrabul_seat_give_bare(a, false, 0, 2).status, NO_LOADER);
+    ANSWERS(nizgrabul_seat_hold(a), DONE);
+    ANSWERS(nizgrabul_seat_new_bare(a, 0).status, DONE);
+    ANSWERS(nizgrabul_seat_new_bare(a, 0).status, LOADER_EXISTS);
+    ANSWERS(nizgrabul_seat_new_arenas(a, 0).status, LOADER_EXISTS);
+    ANSWERS(nizgrabul_seat_new_loader(a, 0).status, LOADER_EXISTS);
+    ANSWERS(nizgrabul_seat_alloc(a, 1, 100).status, NO_LOADER);
+    TAKES((block = nizgrabul_seat_take(a, false, 100)).status, DONE);
+    IS(block.value == 0);
+    TAKES((block = nizgrabul_seat_take(a, true, 1)).status, DONE);
+    IS(block.value == 67108864 && nizgrabul_seat_used(a) == 102);
+    ANSWERS(nizgrabul_seat_let_go(a), DONE);
+    ANSWERS(nizgrabul_seat_give(a, true, block.value, 2).status, NO_LOADER);
+    ANSWERS(nizgrabul_seat_totals(a, &sums), NO_LOADER);
+    IS(sums.kind == 7);
+    ANSWERS(nizgrabul_seat_give_bare(a, true, block.value, 2).status, DONE);
+    TAKES((block = nizgrabul_seat_take(a, false, 412)).status, DONE);
+    IS(block.value == 100);
+    TAKES(nizgrabul_seat_take(a, false, 2).status, NOT_HELD);
+    ANSWERS(nizgrabul_seat_take(a, false, 0).status, ZERO_WORDS);
+    ANSWERS(nizgrabul_seat_take(a, false, 600000).status, TOO_LARGE);
+    ANSWERS(nizgrabul_seat_give_bare(a, false, 0, 100).status, DONE);
     TAKES((block = nizgrabul_seat_take(a, false, 100)).status, DONE);
     IS(block.value == 0 && nizgrabul_seat_used(a) == 514);
     ANSWERS(nizgrabul_seat_unload(a).status, NOT_HELD);
@@ -181,6 +230,7 @@ static void run(void) {
     nizgrabul_seat_end(&a);
     nizgrabul_seat_end(&a);
     run_without_numbers();
+    run_bare();
     IS(!a.live && blocks == 0);
 }
 

@@ -1,7 +1,8 @@
 -- Arenas without names whose blocks come and go are arenas of the same accounts' owners, and the seat
 -- serves them still.
 use Rattle.std.proofs.Common.{◌≡◌, ◌≢◌, ◌<◌, ℕ, Bool, true, false, Option, Some, None, Result, Ok, Err, refl, sym, ap}
-use Rattle.std.proofs.Common.{◌∙◌, subst, inl, inr, IfOk}
+use Rattle.std.proofs.Common.{◌∙◌, ◌+◌, subst, inl, inr, IfOk, [], arith}
+use Rattle.ms_base.specs.declared.kind.Kind.{Kind}
 use Rattle.ms_base.specs.declared.kind.Space.{Space}
 use Rattle.ms_base.specs.declared.kind.Space.TheVariants.{NonClass, Class}
 use Rattle.ms_base.specs.declared.policy.Policy.{Policy}
@@ -17,14 +18,21 @@ use Rattle.ms_pool.specs.Account.{AccountState}
 use Rattle.ms_arena.specs.Arena.{ArenaView, account_of, Places, PlacedAt}
 use Rattle.ms_arena.specs.Alloc.{TakeRelation, GrowRelation, TakesNew, AfterTake, AfterGrow, AsksChunk, FindsPlace}
 use Rattle.ms_arena.specs.Alloc.{Allocates}
+use Rattle.ms_arena.specs.Raw.{live_with}
 use Rattle.ms_shared.specs.declared.lock_rule.SeatView.{SeatView}
-use Rattle.ms_shared.specs.SeatView.{ServesBy, opened_by}
+use Rattle.ms_shared.specs.SeatView.{SeatState, ServesBy, opened_by}
+use Rattle.ms_shared.specs.LockCalls.{OpenedBothOver}
 use Rattle.ms_c.specs.declared.member.arenas.Arenas.{Arenas}
+use Rattle.ms_c.specs.declared.member.bare.BareArenas.{BareArenas}
+use Rattle.ms_c.specs.declared.member.hosted.Hosted.{Hosted}
+use Rattle.ms_c.specs.declared.member.hosted.Hosted.TheVariants.{Known, Bare}
 use Rattle.ms_c.specs.Arenas.{arena_in, with_arena, ServesArenas, PlacesOwn, GivesBlock}
+use Rattle.ms_c.specs.Bare.{BareView, arena_with, bare_account}
+use Rattle.ms_c.specs.Hosted.{bare_in, with_bare, shown, new_hosted, PlacesBare, GivesBare, PlacesHosted}
 use Rattle.ms_base.specs.declared.step.Reply.{Reply}
 use Rattle.ms_base.specs.declared.step.Reply.TheVariants.{Ok as Done, At, Value, Refused}
 use Rattle.ms_loaders.proofs.steps.OutcomeLemmas.{placed_chunks}
-use Rattle.ms_c.specs.Taking.{AnswersOwn, AnswersGiving}
+use Rattle.ms_c.specs.Taking.{AnswersOwn, AnswersGiving, FreesOf}
 
 -- An arena keeps its owner and its space.
 abbrev Keeps : ArenaView → ArenaView → Type 0
@@ -144,20 +152,100 @@ serves_given space block knows old new gives its =
     subst (ServesArenas knows) (sym gives.new_is)
     (serves_alike space knows old gives.is (ap account_of gives.frees.after) its)
 
-pub serves_own : (space : Space) (words : ℕ) (knows : SeatView) (old new : Arenas) (reply : Option Reply)
-    → AnswersOwn space words old reply new → ServesArenas knows old → ServesArenas knows new
-serves_own space words knows old new None same its = subst (ServesArenas knows) (sym same) its
-serves_own space words knows old new (Some (At start)) placed its =
-    serves_placed_own space words knows old new (Some placed.0) placed.2 its
+-- So it is of bare ones.
+pub serves_bare : (space : Space) (knows : SeatView) (arenas : BareArenas) (is : BareView)
+    → bare_account is ≡ bare_account (bare_in space arenas) → ServesArenas knows (shown (Bare arenas))
+    → ServesArenas knows (shown (Bare (with_bare space arenas is)))
+serves_bare NonClass knows arenas is same its =
+    serves_alike NonClass knows (shown (Bare arenas)) (arena_with is []) same its
+serves_bare Class knows arenas is same its =
+    serves_alike Class knows (shown (Bare arenas)) (arena_with is []) same its
+
+serves_placed_bare : (space : Space) (words : ℕ) (knows : SeatView) (old new : BareArenas) (found : Option Block)
+    → PlacesBare space words old found new → ServesArenas knows (shown (Bare old))
+    → ServesArenas knows (shown (Bare new))
+serves_placed_bare space words knows old new found places its =
+    let was = bare_in space old in let n = block_words words in
+    subst (λ (arenas : BareArenas). ServesArenas knows (shown (Bare arenas))) (sym places.new_is)
+    (serves_bare space knows old places.is
+    (placed_alike (arena_with was []) (arena_with places.is (live_with [] found)) n (placed was.books n) found refl
+    (places.places []).1) its)
+
+pub serves_given_bare : (space : Space) (block : Block) (knows : SeatView) (old new : BareArenas)
+    → GivesBare space old block new → ServesArenas knows (shown (Bare old)) → ServesArenas knows (shown (Bare new))
+serves_given_bare space block knows old new gives its =
+    subst (λ (arenas : BareArenas). ServesArenas knows (shown (Bare arenas))) (sym gives.new_is)
+    (serves_bare space knows old gives.is (ap bare_account gives.frees.after) its)
+
+serves_placed : (space : Space) (words : ℕ) (knows : SeatView) (old new : Hosted) (found : Option Block)
+    → PlacesHosted space words old found new → ServesArenas knows (shown old) → ServesArenas knows (shown new)
+serves_placed space words knows (Known old) (Known new) found places its =
+    serves_placed_own space words knows old new found places its
+serves_placed space words knows (Bare old) (Bare new) found places its =
+    serves_placed_bare space words knows old new found places its
+serves_placed space words knows (Known old) (Bare new) found places its = absurd places
+serves_placed space words knows (Bare old) (Known new) found places its = absurd places
+
+-- And of what they answer.
+pub serves_own : (space : Space) (words : ℕ) (knows : SeatView) (old new : Hosted) (reply : Option Reply)
+    → AnswersOwn space words old reply new → ServesArenas knows (shown old) → ServesArenas knows (shown new)
+serves_own space words knows old new None same its =
+    subst (λ (arenas : Hosted). ServesArenas knows (shown arenas)) (sym same) its
+serves_own space words knows old new (Some (At start)) its serves =
+    serves_placed space words knows old new (Some its.0) its.2 serves
 serves_own space words knows old new (Some (Refused refusal)) refused its =
-    subst (ServesArenas knows) (sym refused.1) its
+    subst (λ (arenas : Hosted). ServesArenas knows (shown arenas)) (sym refused.1) its
 serves_own space words knows old new (Some Done) none its = absurd none
 serves_own space words knows old new (Some (Value value)) none its = absurd none
 
-pub serves_giving : (space : Space) (block : Block) (knows : SeatView) (old new : Arenas) (reply : Reply)
-    → AnswersGiving space block old reply new → ServesArenas knows old → ServesArenas knows new
-serves_giving space block knows old new Done gives its = serves_given space block knows old new gives its
-serves_giving space block knows old new (Refused refusal) refused its =
-    subst (ServesArenas knows) (sym refused.2) its
-serves_giving space block knows old new (At start) none its = absurd none
-serves_giving space block knows old new (Value value) none its = absurd none
+pub serves_giving : (space : Space) (block : Block) (knows : SeatView) (old new : Hosted) (reply : Reply)
+    → AnswersGiving space block old reply new → ServesArenas knows (shown old) → ServesArenas knows (shown new)
+serves_giving space block knows (Known old) (Known new) Done gives its =
+    serves_given space block knows old new gives its
+serves_giving space block knows (Known old) (Bare new) Done none its = absurd none
+serves_giving space block knows (Known old) new (Refused refusal) refused its =
+    subst (λ (arenas : Hosted). ServesArenas knows (shown arenas)) (sym refused.2) its
+serves_giving space block knows (Known old) new (At start) none its = absurd none
+serves_giving space block knows (Known old) new (Value value) none its = absurd none
+serves_giving space block knows (Bare old) new (Refused refusal) refused its =
+    subst (λ (arenas : Hosted). ServesArenas knows (shown arenas)) (sym refused.1) its
+serves_giving space block knows (Bare old) new Done none its = absurd none
+serves_giving space block knows (Bare old) new (At start) none its = absurd none
+serves_giving space block knows (Bare old) new (Value value) none its = absurd none
+
+pub serves_freed_of : (space : Space) (block : Block) (knows : SeatView) (old new : Hosted) (reply : Reply)
+    → FreesOf space block old reply new → ServesArenas knows (shown old) → ServesArenas knows (shown new)
+serves_freed_of space block knows (Bare old) (Bare new) Done gives its =
+    serves_given_bare space block knows old new gives its
+serves_freed_of space block knows (Bare old) (Known new) Done none its = absurd none
+serves_freed_of space block knows (Bare old) new (Refused refusal) none its = absurd none
+serves_freed_of space block knows (Bare old) new (At start) none its = absurd none
+serves_freed_of space block knows (Bare old) new (Value value) none its = absurd none
+serves_freed_of space block knows (Known old) new (Refused refusal) refused its =
+    subst (λ (arenas : Hosted). ServesArenas knows (shown arenas)) (sym refused.1) its
+serves_freed_of space block knows (Known old) new Done none its = absurd none
+serves_freed_of space block knows (Known old) new (At start) none its = absurd none
+serves_freed_of space block knows (Known old) new (Value value) none its = absurd none
+
+-- Arenas that were opened are served, whether they know their blocks or not.
+pub serves_opened : (is_bare : Bool) (kind : Kind) (old new : SeatState) (accounts : AccountState × AccountState)
+    → OpenedBothOver old (Ok accounts) new → ServesBy new.knows accounts.0 → ServesBy new.knows accounts.1
+    → accounts.0.space ≡ NonClass → accounts.1.space ≡ Class
+    → ((space : Space) → opened_by new.knows space ≡ opened_by old.knows space + 1)
+    → ServesArenas new.knows (shown (new_hosted is_bare accounts kind))
+serves_opened true kind old new accounts opened first second space class_space counts = record {
+  served = first;
+  class_served = second;
+  space = space;
+  class_space = class_space;
+  counted = λ one. omega (arith, counts one);
+  apart = λ e. omega (arith, e, ap (λ (a : AccountState × AccountState). a.1.owner) opened.new_are);
+}
+serves_opened false kind old new accounts opened first second space class_space counts = record {
+  served = first;
+  class_served = second;
+  space = space;
+  class_space = class_space;
+  counted = λ one. omega (arith, counts one);
+  apart = λ e. omega (arith, e, ap (λ (a : AccountState × AccountState). a.1.owner) opened.new_are);
+}

@@ -2,6 +2,7 @@ pub mod AloneLemmas
 pub mod ArenasLemmas
 pub mod AsBox
 pub mod AsSeat
+pub mod BareLemmas
 pub mod BitLemmas
 pub mod HostedLemmas
 pub mod RunLemmas

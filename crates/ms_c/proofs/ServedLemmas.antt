@@ -148,7 +148,7 @@ module _ (policy : Policy) (was : ArenaView) (n : ℕ) (answer : Result Block Re
   finds_id None before its =
       asks_id (current was.books) (asks_growth was.kind was.space was.books (current was.books) n) before its
 
-arena_id : (policy : Policy) (was : ArenaView) (words : ℕ) (before : HeldState) (answer : Result Block Refusal)
+pub arena_id : (policy : Policy) (was : ArenaView) (words : ℕ) (before : HeldState) (answer : Result Block Refusal)
     (is : ArenaView) (after : HeldState)
     → Allocates GrewHeld TookHeld policy was words before answer is after → after.seat.id ≡ before.seat.id
 arena_id policy was words before answer is after (inl refused) = ap (λ (h : HeldState). h.seat.id) refused.source

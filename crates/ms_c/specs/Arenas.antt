@@ -1,16 +1,16 @@
 -- The arenas of a loader without names, and what its calls do.
-use Rattle.std.specs.Prelude.{◌≡◌, ◌≢◌, ℕ, ◌<◌, Option, Result, Ok}
-use Rattle.ms_base.specs.declared.kind.Kind.{Kind}
+use Rattle.std.specs.Prelude.{◌≡◌, ◌≢◌, ℕ, ◌<◌, Option, Result}
 use Rattle.ms_base.specs.declared.kind.Space.{Space}
 use Rattle.ms_base.specs.declared.kind.Space.TheVariants.{NonClass, Class}
 use Rattle.ms_base.specs.declared.span.Block.{Block}
 use Rattle.ms_base.specs.declared.refusal.Refusal.{Refusal}
-use Rattle.ms_pool.specs.Account.{AccountState}
-use Rattle.ms_arena.specs.Arena.{ArenaView, account_of, new_arena, Places, FreesBlock as FreesRun}
+use Rattle.ms_arena.specs.Arena.{ArenaView, account_of, Places, FreesBlock as FreesRun}
 use Rattle.ms_arena.specs.Alloc.{Allocates}
+use Rattle.ms_arena.specs.ArenaSums.{AreSums}
+use Rattle.ms_loaders.specs.declared.system.sums.LoaderTotals.{LoaderTotals}
 use Rattle.ms_shared.specs.declared.lock_rule.SeatView.{SeatView}
 use Rattle.ms_shared.specs.SeatView.{HeldState, ServesBy, opened_by}
-use Rattle.ms_shared.specs.LockCalls.{TookHeld, GrewHeld, OpenedBothHeld}
+use Rattle.ms_shared.specs.LockCalls.{TookHeld, GrewHeld}
 use Rattle.ms_c.specs.declared.member.arenas.Arenas.{Arenas}
 
 -- The arena of a space, and with another one there.
@@ -31,13 +31,6 @@ pub record ServesArenas (knows : SeatView) (arenas : Arenas) : Type 0 where
   pub counted : (space : Space) → 0 < opened_by knows space
   pub apart : arenas.arena.owner ≢ arenas.class_arena.owner
 
--- Both accounts are opened over the pool that a seat has, and the arenas have nothing yet.
-pub record OpensArenas (kind : Kind) (held now : HeldState) (arenas : Arenas) : Type 0 where
-  pub accounts : AccountState × AccountState
-  pub opened : OpenedBothHeld held (Ok accounts) now
-  pub arena : arenas.arena ≡ new_arena accounts.0 kind
-  pub class_arena : arenas.class_arena ≡ new_arena accounts.1 kind
-
 -- A block is allocated in a space, or refused, over the pool that a seat has; the other arena stays.
 pub record TakesOver (space : Space) (words : ℕ) (held : HeldState) (old : Arenas) (answer : Result Block Refusal)
     (new : Arenas) (now : HeldState) : Type 0 where
@@ -56,3 +49,9 @@ pub record GivesBlock (space : Space) (old : Arenas) (block : Block) (new : Aren
   pub is : ArenaView
   pub frees : FreesRun (arena_in space old) block is
   pub new_is : new ≡ with_arena space old is
+
+-- The totals are the kind of a loader without names and the sums over both its arenas.
+pub record AreArenasSums (arenas : Arenas) (totals : LoaderTotals) : Type 0 where
+  pub kind : totals.kind ≡ arenas.arena.kind
+  pub space : AreSums totals.space arenas.arena
+  pub class_space : AreSums totals.class_space arenas.class_arena

@@ -5,6 +5,7 @@ use Rattle.ms_base.specs.declared.kind.Kind.{Kind}
 use Rattle.ms_base.specs.declared.kind.Space.{Space}
 use Rattle.ms_base.specs.declared.kind.Space.TheVariants.{NonClass, Class}
 use Rattle.ms_base.specs.declared.settings.Settings.{Settings}
+use Rattle.ms_base.specs.declared.span.Block.{Block}
 use Rattle.ms_base.specs.declared.step.Reply.{Reply}
 use Rattle.ms_base.specs.State.{limits_of}
 use Rattle.ms_loaders.specs.declared.system.sums.LoaderTotals.{LoaderTotals}
@@ -17,9 +18,10 @@ use Rattle.ms_c.specs.Kinds.{kind_number}
 use Rattle.ms_c.specs.Sums.{loader_told}
 use Rattle.ms_c.specs.Settings.{AreSettings, AreFit}
 use Rattle.ms_c.specs.Seating.{Seated}
-use Rattle.ms_c.specs.Member.{MemberState, IsFirst, Splits, AnswersNew, TellsPool, Purges, AreItsSums}
+use Rattle.ms_c.specs.Member.{MemberState, IsFirst, Splits, AnswersNew, TellsPool, Purges}
 use Rattle.ms_c.specs.Member.{FindsRun}
-use Rattle.ms_c.specs.Taking.{AnswersNewArenas}
+use Rattle.ms_c.specs.Hosted.{IsOwed}
+use Rattle.ms_c.specs.Taking.{AnswersNewArenas, AreTheirSums, KnowsNoBlocks}
 
 -- The member is answered so.
 pub record Called (is : MemberState → Option Reply → MemberState → Type 0) (before : MemberState) (answer : Answer)
@@ -50,15 +52,16 @@ abbrev pub MakesLoaderAt : Seated → ℕ → Answer → Seated → Type 0
 MakesLoaderAt before number answer after =
     MakesKind before number answer after ⊎ LacksKind before number answer after
 
--- So it is of a loader without names.
-pub record MakesArenasOf (before : Seated) (number : ℕ) (answer : Answer) (after : Seated) : Type 0 where
-  pub kind : Kind
-  pub kind_is : kind_number kind ≡ number
-  pub calls : Calls (AnswersNewArenas kind) before answer after
+-- So it is of a loader without names, which knows its blocks or is bare.
+pub record MakesArenasOf (is_bare : Bool) (before : Seated) (number : ℕ) (answer : Answer) (after : Seated) : Type 0
+  where
+    pub kind : Kind
+    pub kind_is : kind_number kind ≡ number
+    pub calls : Calls (AnswersNewArenas is_bare kind) before answer after
 
-abbrev pub MakesArenasAt : Seated → ℕ → Answer → Seated → Type 0
-MakesArenasAt before number answer after =
-    MakesArenasOf before number answer after ⊎ LacksKind before number answer after
+abbrev pub MakesArenasAt : Bool → Seated → ℕ → Answer → Seated → Type 0
+MakesArenasAt is_bare before number answer after =
+    MakesArenasOf is_bare before number answer after ⊎ LacksKind before number answer after
 
 -- The space that C means.
 abbrev pub space_of : Bool → Space
@@ -147,10 +150,15 @@ pub record TellsIts (seat : Seated) (sums : LoaderSums) : Type 0 where
   pub member : MemberState
   pub totals : LoaderTotals
   pub is : seat ≡ Some member
-  pub are : AreItsSums member totals
+  pub are : AreTheirSums member.arenas member totals
   pub told : sums ≡ loader_told totals
 
 pub record HasNone (seat : Seated) : Type 0 where
   pub member : MemberState
   pub is : seat ≡ Some member
-  pub none : member.loader ≡ None
+  pub none : KnowsNoBlocks member
+
+-- What is owed where a block of a seat's bare loader is given back: it may be one of its live ones.
+abbrev pub IsOwedBy : Seated → Space → Block → Type 0
+IsOwedBy None space block = Unit {0}
+IsOwedBy (Some member) space block = IsOwed space block member.arenas

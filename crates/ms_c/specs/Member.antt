@@ -27,9 +27,10 @@ use Rattle.ms_loaders.specs.Sums.{AreSumsIn}
 use Rattle.ms_loaders.specs.declared.system.sums.LoaderTotals.{LoaderTotals}
 use Rattle.ms_shared.specs.declared.lock_rule.SeatView.{SeatView}
 use Rattle.ms_shared.specs.SeatView.{LockState, SeatState, HeldState, ServesBy, opened_by, new_seats}
-use Rattle.ms_c.specs.declared.member.arenas.Arenas.{Arenas}
+use Rattle.ms_c.specs.declared.member.hosted.Hosted.{Hosted}
 use Rattle.ms_c.specs.declared.runs.Run.{Run}
 use Rattle.ms_c.specs.Arenas.{ServesArenas}
+use Rattle.ms_c.specs.Hosted.{shown}
 use Rattle.ms_c.specs.Uncommitted.{is_uncommitted, commits_in, IsNext}
 use Rattle.ms_shared.specs.LockCalls.{TookHeld, GrewHeld, OpenedBothHeld, ClosedBothHeld, PurgedHeld}
 
@@ -40,7 +41,7 @@ pub record MemberState : Type 0 where
   pub held : Option HeldState
   pub spare : List SeatState
   pub loader : Option LoaderView
-  pub arenas : Option Arenas
+  pub arenas : Option Hosted
 
 -- A seat serves a loader: both its accounts, which are two, and it counts some in each space.
 pub record ServesLoader (knows : SeatView) (loader : LoaderView) : Type 0 where
@@ -59,10 +60,10 @@ IsSeated lock None (Some held) loader = (held.seat.id ≡ lock.id) × ServesIt h
 IsSeated lock _ _ loader = ⊥
 
 -- It serves the arenas, where there are any, and then there is no loader.
-abbrev pub HostsArenas : Option Arenas → Option SeatState → Option HeldState → Option LoaderView → Type 0
+abbrev pub HostsArenas : Option Hosted → Option SeatState → Option HeldState → Option LoaderView → Type 0
 HostsArenas None seat held loader = Unit {0}
-HostsArenas (Some arenas) (Some seat) None None = ServesArenas seat.knows arenas
-HostsArenas (Some arenas) None (Some held) None = ServesArenas held.seat.knows arenas
+HostsArenas (Some arenas) (Some seat) None None = ServesArenas seat.knows (shown arenas)
+HostsArenas (Some arenas) None (Some held) None = ServesArenas held.seat.knows (shown arenas)
 HostsArenas (Some arenas) _ _ _ = ⊥
 
 -- A seat without the pool and without a loader.
@@ -130,7 +131,7 @@ pub record MakesLoader (kind : Kind) (old new : MemberState) : Type 0 where
 -- There is a loader, with names or without.
 abbrev pub HasLoader : MemberState → Type 0
 HasLoader now =
-    ((loader : LoaderView) × (now.loader ≡ Some loader)) ⊎ ((arenas : Arenas) × (now.arenas ≡ Some arenas))
+    ((loader : LoaderView) × (now.loader ≡ Some loader)) ⊎ ((arenas : Hosted) × (now.arenas ≡ Some arenas))
 
 -- Why none is made: there is one; or the pool has no numbers left.
 abbrev pub MakesNone : MemberState → Refusal → MemberState → Type 0

@@ -9,8 +9,9 @@
 //! Each export takes the system, or the member, out of what C holds, makes one call of it and puts
 //! it back; its clauses are that call's, over what is held before and after. Its docs and those of
 //! `nizgrabul.h` are the same. A member's loader has names for its blocks, or knows them by where
-//! they start. No export has a `requires`: any numbers are allowed, and an empty handle or seat is a
-//! status. What a C program owes besides is listed in the header. Apart because a static library can
+//! they start, or is bare and knows none. One export has a `requires`, where a bare loader's block is
+//! freed: to all others any numbers are allowed, and an empty handle or seat is a status. What a C
+//! program owes besides is listed in the header. Apart because a static library can
 //! be no other crate's. Stands on `ms_loaders` and `ms_shared`. Nothing waits, and what takes memory
 //! says so.
 #![tactic(auto)]

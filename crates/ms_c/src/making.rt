@@ -10,7 +10,7 @@ use ms_loaders::System;
 use std::alloc::Global;
 
 /// What the calls and structs for C are counted by: it rises where one of them changes.
-const VERSION: u32 = 6;
+const VERSION: u32 = 7;
 
 /// Returns the library's version, for a program to compare with the NIZGRABUL_VERSION of its
 /// header. Takes no memory.

@@ -10,18 +10,20 @@
 ghost use Rattle.std.specs.Prelude.{◌≡◌, IsTrue, IsFalse, IfSome, IfNone, None, length, map};
 ghost use Rattle.std.specs.List.{All, range_with_len};
 ghost use Rattle.std.specs.Arc.{arc_value};
-ghost use Rattle.ms_c.specs.Member.{free_seat, Holds, LetsGo, LacksPool, TellsPool, granule_at, AreItsSums};
-ghost use Rattle.ms_c.specs.Taking.{used_of_them};
+ghost use Rattle.ms_c.specs.Member.{free_seat, Holds, LetsGo, LacksPool, TellsPool, granule_at};
+ghost use Rattle.ms_c.specs.Taking.{used_of_them, AreTheirSums, KnowsNoBlocks};
 ghost use Rattle.ms_c.specs.Member.{FindsRun};
 
 mod arenas;
+mod bare;
+mod hosted;
 mod loading;
 mod sharing;
 mod taking;
 
 use crate::granules::next_run;
 use crate::runs::Run;
-use arenas::Arenas;
+use hosted::{Hosted, hosted_totals, words_used};
 use ms_loaders::{Loader, LoaderTotals};
 use ms_shared::{HeldSeat, PoolSeat, SharedPool};
 use std::alloc::Global;
@@ -41,7 +43,7 @@ pub struct Member {
     // The loader.
     loader: Option<Loader>,
     // The arenas of a loader without names, in its place.
-    arenas: Option<Arenas>,
+    arenas: Option<Hosted>,
 }
 
 impl Drop for Member {
@@ -157,7 +159,7 @@ impl Member {
         ensures { result ≡ used_of_them self.now.arenas self.now.loader }
     {
         if let Some(arenas) = &self.arenas {
-            return arenas.arena.used() + arenas.class_arena.used();
+            return words_used(arenas);
         }
         match &self.loader {
             Some(loader) => loader.used(),
@@ -165,12 +167,16 @@ impl Member {
         }
     }
 
-    /// Returns the kind of the loader and the sums over each of its arenas, where there is one. Takes
-    /// no memory, visits each of its chunks once, and no block.
+    /// Returns the kind of the loader, with names or without, and the sums over each of its arenas,
+    /// where there is one that knows its blocks. Takes no memory, visits each of its chunks once, and
+    /// no block.
     pub fn totals(&self) -> Option<LoaderTotals>
-        ensures sums { IfSome result (AreItsSums self.now) }
-        ensures none { IfNone result (self.now.loader ≡ None) }
+        ensures sums { IfSome result (AreTheirSums self.now.arenas self.now) }
+        ensures none { IfNone result (KnowsNoBlocks self.now) }
     {
+        if let Some(arenas) = &self.arenas {
+            return hosted_totals(arenas);
+        }
         let Some(loader) = &self.loader else {
             return None;
         };

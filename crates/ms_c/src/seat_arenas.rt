@@ -1,8 +1,10 @@
 //! The exports by which a seat's loader without names comes, takes blocks and gives them back.
-ghost use Rattle.std.specs.Prelude.{◌≡◌};
-ghost use Rattle.ms_c.specs.Taking.{AnswersNewArenas, AnswersTake, AnswersGive};
+//!
+//! What C owes of a block that it gives back to a bare loader is the one `requires` of an export.
+ghost use Rattle.std.specs.Prelude.{◌≡◌, true, false};
+ghost use Rattle.ms_c.specs.Taking.{AnswersNewArenas, AnswersTake, AnswersGive, AnswersGiveBare};
 ghost use Rattle.ms_arena.specs.Arena.{block_at};
-ghost use Rattle.ms_c.specs.Calls.{Calls, MakesArenasAt, space_of};
+ghost use Rattle.ms_c.specs.Calls.{Calls, MakesArenasAt, IsOwedBy, space_of};
 
 use crate::answer::{Answer, tell_seated};
 use crate::kinds::kind_of;
@@ -16,22 +18,35 @@ use std::alloc::Global;
 /// LOADER_EXISTS, NOT_HELD and IDS_USED_UP. Takes no memory.
 #[unsafe(no_mangle)]
 pub extern "C" fn nizgrabul_seat_new_arenas(alloc: Global, seat: &mut Seat, kind: u32) -> Answer
-    ensures { MakesArenasAt seat.old.slot.held kind result seat.new.slot.held }
+    ensures { MakesArenasAt false seat.old.slot.held kind result seat.new.slot.held }
 {
     match kind_of(kind) {
-        Some(kind) => new_arenas(alloc, seat, kind),
+        Some(kind) => new_arenas(alloc, seat, kind, false),
+        None => Answer::BAD_KIND,
+    }
+}
+
+/// Makes the seat's loader as `nizgrabul_seat_new_arenas` does, but that it keeps no list of its live
+/// blocks, which makes it cheaper: `nizgrabul_seat_take` allocates of it too, and
+/// `nizgrabul_seat_give_bare` frees. Refused as that call is. Takes no memory.
+#[unsafe(no_mangle)]
+pub extern "C" fn nizgrabul_seat_new_bare(alloc: Global, seat: &mut Seat, kind: u32) -> Answer
+    ensures { MakesArenasAt true seat.old.slot.held kind result seat.new.slot.held }
+{
+    match kind_of(kind) {
+        Some(kind) => new_arenas(alloc, seat, kind, true),
         None => Answer::BAD_KIND,
     }
 }
 
 /// Makes the seat's loader without names, of a kind.
-fn new_arenas(alloc: Global, seat: &mut Seat, kind: Kind) -> Answer
-    ensures { Calls (AnswersNewArenas kind) seat.old.slot.held result seat.new.slot.held }
+fn new_arenas(alloc: Global, seat: &mut Seat, kind: Kind, is_bare: bool) -> Answer
+    ensures { Calls (AnswersNewArenas is_bare kind) seat.old.slot.held result seat.new.slot.held }
 {
     match seat.take(alloc) {
         None => Answer::NO_SEAT,
         Some(mut member) => {
-            let reply = member.new_arenas(alloc, kind);
+            let reply = member.new_arenas(alloc, kind, is_bare);
             seat.put(member);
             tell_seated(reply)
         }
@@ -67,7 +82,8 @@ pub extern "C" fn nizgrabul_seat_take(
 /// Frees the live block of the seat's loader without numbers that starts there and has so many
 /// words, at least two: its words become a free block of the loader. No granule changes, and the
 /// pool isn't needed. Refused with NO_SEAT, NO_LOADER, and with NOT_LIVE exactly where the loader
-/// has no such live block in that space, and then nothing changes. Takes no memory.
+/// has no such live block in that space, and then nothing changes; a bare loader is refused with
+/// NO_LOADER. Takes no memory.
 #[unsafe(no_mangle)]
 pub extern "C" fn nizgrabul_seat_give(
     alloc: Global,
@@ -83,6 +99,32 @@ pub extern "C" fn nizgrabul_seat_give(
         None => Answer::NO_SEAT,
         Some(mut member) => {
             let reply = member.give(space_in(class_space), Block { start, words });
+            seat.put(member);
+            tell_seated(reply)
+        }
+    }
+}
+
+/// Frees a block of the seat's bare loader, as `nizgrabul_seat_give` does of another. The program
+/// owes that `nizgrabul_seat_take` returned that start for so many words, or for one where these are
+/// two, in that space, to this loader, and that the block was not given back since: nothing checks
+/// it. Refused with NO_SEAT, and with NO_LOADER where there is no bare loader. Takes no memory.
+#[unsafe(no_mangle)]
+pub extern "C" fn nizgrabul_seat_give_bare(
+    alloc: Global,
+    seat: &mut Seat,
+    class_space: bool,
+    start: u64,
+    words: u64,
+) -> Answer
+    requires { IsOwedBy seat.old.slot.held (space_of class_space) (block_at start words) }
+    ensures { Calls (AnswersGiveBare (space_of class_space) (block_at start words))
+        seat.old.slot.held result seat.new.slot.held }
+{
+    match seat.take(alloc) {
+        None => Answer::NO_SEAT,
+        Some(mut member) => {
+            let reply = member.give_bare(space_in(class_space), Block { start, words });
             seat.put(member);
             tell_seated(reply)
         }

@@ -53,9 +53,9 @@ pub extern "C" fn nizgrabul_seat_granules(
     if has_told { DONE } else { NOT_HELD }
 }
 
-/// Writes the sums of the seat's loader to `out`. Returns DONE, NO_SEAT, or NO_LOADER where there
-/// is none with numbers; all but DONE leave `out` as it was. Takes no memory; visits each chunk of
-/// the loader, and no block.
+/// Writes the sums of the seat's loader, with numbers for its blocks or without, to `out`. Returns
+/// DONE, NO_SEAT, or NO_LOADER where there is none, or a bare one; all but DONE leave `out` as it
+/// was. Takes no memory; visits each chunk of the loader, and no block.
 #[unsafe(no_mangle)]
 pub extern "C" fn nizgrabul_seat_totals(alloc: Global, seat: &mut Seat, out: &mut LoaderSums) -> u32
     ensures totals { result ≡ DONE → TellsIts seat.old.slot.held out.new }

@@ -73,7 +73,7 @@ pub(crate) mod ffi {
 }
 
 /// The version of nizgrabul.h that this file was written by.
-pub const VERSION: u32 = 6;
+pub const VERSION: u32 = 7;
 
 /// The settings of a system, under the policy balanced.
 #[derive(Clone, Copy)]

@@ -5,20 +5,20 @@
 //!
 //! A block is known by its space, its start and its words. Over the pool that a seat has the arenas
 //! take chunks; without it a block has its place in their own. Only `take` and `place` take memory.
-ghost use Rattle.std.specs.Prelude.{◌≡◌, ◌≢◌, ◌↔◌, Err, IfOk, IfErr, OnOk, OnErr};
+ghost use Rattle.std.specs.Prelude.{◌≡◌, ◌≢◌, ◌↔◌, IfOk, IfErr, OnOk, OnErr};
 ghost use Rattle.ms_base.specs.declared.refusal.Refusal.TheVariants.{NotLive};
 ghost use Rattle.ms_pool.specs.Account.{AccountState};
 ghost use Rattle.ms_arena.specs.Arena.{account_of, PlaceRefused, IsNotLive};
 ghost use Rattle.ms_arena.specs.Alloc.{Allocates};
 ghost use Rattle.ms_shared.specs.SeatView.{ServesBy, opened_by};
-ghost use Rattle.ms_shared.specs.LockCalls.{TookHeld, GrewHeld, OpenedBothHeld, ClosedBothHeld};
-ghost use Rattle.ms_c.specs.Arenas.{ServesArenas, OpensArenas, TakesOver, PlacesOwn, GivesBlock, arena_in};
+ghost use Rattle.ms_shared.specs.LockCalls.{TookHeld, GrewHeld};
+ghost use Rattle.ms_c.specs.Arenas.{ServesArenas, TakesOver, PlacesOwn, GivesBlock, arena_in};
+ghost use Rattle.ms_c.specs.Arenas.{AreArenasSums};
 
 use ms_arena::Arena;
-use ms_base::{Block, Kind, Refusal, Space};
-use ms_pool::{AccountSource, ChunkSource};
+use ms_base::{Block, Refusal, Space};
+use ms_loaders::LoaderTotals;
 use ms_shared::{HeldSeat, SharedPool};
-use std::alloc::Global;
 
 /// The arenas of a loader without names.
 #[derive(Drop)]
@@ -27,46 +27,6 @@ pub struct Arenas {
     pub arena: Arena,
     /// The class space's.
     pub class_arena: Arena,
-}
-
-/// Opens both accounts over the pool that a seat has.
-pub fn open_arenas(
-    shared: &SharedPool,
-    alloc: Global,
-    held: HeldSeat,
-    kind: Kind,
-) -> (HeldSeat, Result<Arenas, Refusal>)
-    requires { held.seat.id ≡ shared.now.id }
-    ensures own { result.0.seat.id ≡ held.seat.id }
-    ensures opened { IfOk result.1 (OpensArenas kind held result.0) }
-    ensures serves { IfOk result.1 (ServesArenas result.0.seat.knows) }
-    ensures refused { IfErr result.1 (λ refusal. OpenedBothHeld held (Err refusal) result.0) }
-{
-    let mut pool = shared.resume(held);
-    match pool.open_both() {
-        Ok((account, class_account)) => (
-            pool.pause(),
-            Ok(Arenas {
-                arena: Arena::new(alloc, account, kind),
-                class_arena: Arena::new(alloc, class_account, kind),
-            }),
-        ),
-        Err(refusal) => (pool.pause(), Err(refusal)),
-    }
-}
-
-/// Closes both accounts over the pool that a seat has.
-pub fn close_arenas(shared: &SharedPool, held: HeldSeat, arenas: Arenas) -> HeldSeat
-    requires own { held.seat.id ≡ shared.now.id }
-    requires serves { ServesArenas held.seat.knows arenas }
-    ensures own { result.seat.id ≡ held.seat.id }
-    ensures closed { ClosedBothHeld held (account_of arenas.arena) (account_of arenas.class_arena) result }
-{
-    let Arenas { arena, class_arena } = arenas;
-    let (account, class_account) = (arena.into_account(), class_arena.into_account());
-    let mut pool = shared.resume(held);
-    pool.close_both(account, class_account);
-    pool.pause()
 }
 
 /// Allocates a block in a space over the pool that a seat has.
@@ -134,5 +94,16 @@ pub fn give(arenas: &mut Arenas, space: Space, block: Block) -> Result<(), Refus
     match space {
         Space::NonClass => arenas.arena.free(block),
         Space::Class => arenas.class_arena.free(block),
+    }
+}
+
+/// Returns the kind of the loader and the sums over both arenas. Visits each of their chunks once.
+pub fn totals_of(arenas: &Arenas) -> LoaderTotals
+    ensures { AreArenasSums arenas.now result }
+{
+    LoaderTotals {
+        kind: arenas.arena.kind(),
+        space: arenas.arena.totals(),
+        class_space: arenas.class_arena.totals(),
     }
 }

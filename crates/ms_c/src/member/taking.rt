@@ -2,23 +2,28 @@
 //!
 //! A block is known by its space, its start and its words. As of a loader with names, what needs the
 //! pool needs that the seat has it, and returns none else.
-ghost use Rattle.std.specs.Prelude.{◌≡◌};
+ghost use Rattle.std.specs.Prelude.{◌≡◌, Some};
+ghost use Rattle.ms_c.specs.Hosted.{IsOwed};
 ghost use Rattle.ms_c.specs.Taking.{AnswersNewArenas, AnswersUnloadArenas, AnswersUnloadAny, AnswersTake, AnswersGive};
+ghost use Rattle.ms_c.specs.Taking.{AnswersGiveBare, FreesAny, FreesOf};
+ghost use Rattle.ms_c.specs.declared.member.hosted.Hosted.TheVariants.{Known};
 ghost use Rattle.ms_c.specs.Taking.{ServesAny, TakesAny, TakesAlone, AnswersOwn, GivesAny, AnswersGiving, placed_told};
 
 use super::Member;
-use super::arenas::{Arenas, close_arenas, give, open_arenas, place, take_over};
+use super::arenas::{Arenas, give};
+use super::hosted::{Hosted, close_hosted, give_bare, open_hosted, place_hosted, take_hosted};
 use super::loading::tell_block;
 use ms_base::{Block, Kind, Refusal, Reply, Space};
 use ms_shared::{HeldSeat, SharedPool};
 use std::alloc::Global;
 
 impl Member {
-    /// Makes a loader without names, with nothing of its own but two owner numbers. Refused with
-    /// `LoaderExists` where there is one, with names or without, and with `IdsUsedUp`; returns none
-    /// where the seat doesn't have the pool. Takes no memory.
-    pub fn new_arenas(&mut self, alloc: Global, kind: Kind) -> Option<Reply>
-        ensures { AnswersNewArenas kind self.old result self.new }
+    /// Makes a loader without names, with nothing of its own but two owner numbers, which knows its
+    /// live blocks or is bare. Refused with `LoaderExists` where there is one, with names or
+    /// without, and with `IdsUsedUp`; returns none where the seat doesn't have the pool. Takes no
+    /// memory.
+    pub fn new_arenas(&mut self, alloc: Global, kind: Kind, is_bare: bool) -> Option<Reply>
+        ensures { AnswersNewArenas is_bare kind self.old result self.new }
     {
         if self.loader.is_some() {
             return Some(Reply::Refused(Refusal::LoaderExists));
@@ -29,7 +34,7 @@ impl Member {
         let Some(held) = self.held.take() else {
             return None;
         };
-        let (held, made) = open_arenas(&self.shared, alloc, held, kind);
+        let (held, made) = open_hosted(&self.shared, alloc, held, kind, is_bare);
         self.held = Some(held);
         match made {
             Ok(arenas) => {
@@ -65,7 +70,7 @@ impl Member {
         let Some(arenas) = self.arenas.take() else {
             unreachable!()
         };
-        self.held = Some(close_arenas(&self.shared, held, arenas));
+        self.held = Some(close_hosted(&self.shared, held, arenas));
         Some(Reply::Ok)
     }
 
@@ -84,12 +89,21 @@ impl Member {
     }
 
     /// Frees a block of a space, with or without the pool. Refused with `NoLoader` where there is no
-    /// loader without names, and with `NotLive` exactly where the loader has no live block there with
-    /// so many words. Takes no memory.
+    /// loader without names that knows its blocks, and with `NotLive` exactly where the loader has no
+    /// live block there with so many words. Takes no memory.
     pub fn give(&mut self, space: Space, block: Block) -> Option<Reply>
         ensures { AnswersGive space block self.old result self.new }
     {
         Some(give_any(&mut self.arenas, space, block))
+    }
+
+    /// Frees a block of a space of a bare loader, of which it may be one of the live ones. Refused
+    /// with `NoLoader` where there is no bare loader. Takes no memory.
+    pub fn give_bare(&mut self, space: Space, block: Block) -> Option<Reply>
+        requires { IsOwed space block self.old.arenas }
+        ensures { AnswersGiveBare space block self.old result self.new }
+    {
+        Some(free_any(&mut self.arenas, space, block))
     }
 }
 
@@ -97,7 +111,7 @@ impl Member {
 fn take_any(
     shared: &SharedPool,
     held: HeldSeat,
-    arenas: &mut Option<Arenas>,
+    arenas: &mut Option<Hosted>,
     space: Space,
     words: u64,
 ) -> (HeldSeat, Reply)
@@ -110,14 +124,14 @@ fn take_any(
     match arenas {
         None => (held, Reply::Refused(Refusal::NoLoader)),
         Some(arenas) => {
-            let (held, answer) = take_over(shared, held, arenas, space, words);
+            let (held, answer) = take_hosted(shared, held, arenas, space, words);
             (held, tell_block(answer))
         }
     }
 }
 
 /// Allocates a block for arenas, where there are any, without the pool.
-fn place_alone(arenas: &mut Option<Arenas>, space: Space, words: u64) -> Option<Reply>
+fn place_alone(arenas: &mut Option<Hosted>, space: Space, words: u64) -> Option<Reply>
     ensures { TakesAlone space words arenas.old result arenas.new }
 {
     match arenas {
@@ -127,10 +141,10 @@ fn place_alone(arenas: &mut Option<Arenas>, space: Space, words: u64) -> Option<
 }
 
 /// Allocates a block where its arena has a place; returns none where it has none.
-fn place_own(arenas: &mut Arenas, space: Space, words: u64) -> Option<Reply>
+fn place_own(arenas: &mut Hosted, space: Space, words: u64) -> Option<Reply>
     ensures { AnswersOwn space words arenas.old result arenas.new }
 {
-    tell_placed(place(arenas, space, words))
+    tell_placed(place_hosted(arenas, space, words))
 }
 
 /// Returns what an allocation without the pool came to: none where there was no place.
@@ -145,18 +159,53 @@ fn tell_placed(answer: Result<Option<Block>, Refusal>) -> Option<Reply>
 }
 
 /// Frees a block of arenas, where there are any.
-fn give_any(arenas: &mut Option<Arenas>, space: Space, block: Block) -> Reply
+fn give_any(arenas: &mut Option<Hosted>, space: Space, block: Block) -> Reply
     ensures { GivesAny space block arenas.old result arenas.new }
 {
     match arenas {
         None => Reply::Refused(Refusal::NoLoader),
-        Some(arenas) => give_own(arenas, space, block),
+        Some(arenas) => give_hosted(arenas, space, block),
+    }
+}
+
+/// Frees a block of arenas that know it.
+fn give_hosted(arenas: &mut Hosted, space: Space, block: Block) -> Reply
+    ensures { AnswersGiving space block arenas.old result arenas.new }
+{
+    match arenas {
+        Hosted::Known(arenas) => give_own(arenas, space, block),
+        Hosted::Bare(_) => Reply::Refused(Refusal::NoLoader),
+    }
+}
+
+/// Frees a block of bare arenas, where there are any.
+fn free_any(arenas: &mut Option<Hosted>, space: Space, block: Block) -> Reply
+    requires { IsOwed space block arenas.old }
+    ensures { FreesAny space block arenas.old result arenas.new }
+{
+    match arenas {
+        None => Reply::Refused(Refusal::NoLoader),
+        Some(arenas) => free_hosted(arenas, space, block),
+    }
+}
+
+/// Frees a block of arenas that leave it to the program.
+fn free_hosted(arenas: &mut Hosted, space: Space, block: Block) -> Reply
+    requires { IsOwed space block (Some arenas.old) }
+    ensures { FreesOf space block arenas.old result arenas.new }
+{
+    match arenas {
+        Hosted::Known(_) => Reply::Refused(Refusal::NoLoader),
+        Hosted::Bare(arenas) => {
+            give_bare(arenas, space, block);
+            Reply::Ok
+        }
     }
 }
 
 /// Frees a block where it is live.
 fn give_own(arenas: &mut Arenas, space: Space, block: Block) -> Reply
-    ensures { AnswersGiving space block arenas.old result arenas.new }
+    ensures { AnswersGiving space block (Known arenas.old) result (Known arenas.new) }
 {
     match give(arenas, space, block) {
         Ok(()) => Reply::Ok,

@@ -1,5 +1,6 @@
 use Rattle.std.proofs.Common.{subst}
-use Rattle.ms_c.specs.Member.{MemberState, AreItsSums}
+use Rattle.ms_c.specs.Member.{MemberState}
+use Rattle.ms_c.specs.Taking.{AreTheirSums}
 use Rattle.ms_c.proofs.seat_telling.nizgrabul_seat_totals.Goals as goal
 
 -- what was found is told as it is
@@ -9,7 +10,7 @@ returns-in-Some-totals-clause-totals c = λ _. record {
   totals = c.in-Some-totals.totals;
   is = c.in-Some.ensures.some;
   are =
-      subst (λ (member : MemberState). AreItsSums member c.in-Some-totals.totals) c.deref.ensures
+      subst (λ (member : MemberState). AreTheirSums member.arenas member c.in-Some-totals.totals) c.deref.ensures
       c.in-Some-totals.ensures.sums;
   told = c.tell_loader.ensures;
 }

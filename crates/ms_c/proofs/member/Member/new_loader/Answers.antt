@@ -3,7 +3,7 @@ use Rattle.std.specs.Arc.{arc_value}
 use Rattle.ms_base.specs.declared.refusal.Refusal.{Refusal}
 use Rattle.ms_loaders.specs.Loader.{LoaderView}
 use Rattle.ms_shared.specs.SeatView.{SeatState}
-use Rattle.ms_c.specs.declared.member.arenas.Arenas.{Arenas}
+use Rattle.ms_c.specs.declared.member.hosted.Hosted.{Hosted}
 use Rattle.ms_c.specs.Member.{MemberState, IsSeated, HostsArenas, ServesLoader}
 use Rattle.ms_c.proofs.SeatedLemmas.{has_it}
 use Rattle.ms_c.proofs.HostedLemmas.{some_there, none_there}
@@ -28,7 +28,7 @@ invariant_of-self-in-Ok c =
     in (
       subst (λ (seat : Option SeatState). IsSeated lock seat (Some now) (Some c.in-Ok.loader)) (sym its.alone)
           (c.open_over-held.ensures.own ∙ its.own, serves),
-      subst (λ (arenas : Option Arenas). HostsArenas arenas c.self.inside.seat (Some now) (Some c.in-Ok.loader))
+      subst (λ (arenas : Option Hosted). HostsArenas arenas c.self.inside.seat (Some now) (Some c.in-Ok.loader))
           (sym (none_there c.self.inside.arenas (sym c.is_some-2.ensures ∙ c.if-is_some-2.false))) tt,
       c.self.invariant.2,
     )

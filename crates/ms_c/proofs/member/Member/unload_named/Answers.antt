@@ -2,7 +2,7 @@ use Rattle.std.proofs.Common.{sym, subst, ◌∙◌, Option, None, Some}
 use Rattle.std.specs.Arc.{arc_value}
 use Rattle.ms_loaders.specs.Loader.{LoaderView}
 use Rattle.ms_shared.specs.SeatView.{SeatState}
-use Rattle.ms_c.specs.declared.member.arenas.Arenas.{Arenas}
+use Rattle.ms_c.specs.declared.member.hosted.Hosted.{Hosted}
 use Rattle.ms_c.specs.Member.{IsSeated, ServesIt, HostsArenas}
 use Rattle.ms_c.proofs.SeatedLemmas.{has_it}
 use Rattle.ms_c.proofs.HostedLemmas.{no_arenas}
@@ -26,7 +26,7 @@ invariant_of-self-2 c =
       subst (λ (seat : Option SeatState). IsSeated lock seat (Some c.close_over.result) c.take-2.new.self) (sym its.alone)
           (subst (λ (loader : Option LoaderView). IsSeated lock None (Some c.close_over.result) loader)
           (sym c.take-2.ensures.after) (c.close_over.ensures.own ∙ its.own, tt)),
-      subst (λ (arenas : Option Arenas).
+      subst (λ (arenas : Option Hosted).
           HostsArenas arenas c.self.inside.seat (Some c.close_over.result) c.take-2.new.self)
           (sym (no_arenas c.self.inside.arenas c.self.inside.seat c.self.inside.held c.self.inside.loader
           c.in-Some-take.loader (sym c.in-Some-take.ensures.value) c.self.invariant.1)) tt,

@@ -7,7 +7,7 @@ use Rattle.ms_c.proofs.member.taking.place_own.Goals as goal
 -- what the arena answered is told
 pub returns : goal.returns
 returns c =
-    subst (λ (reply : Option Reply). AnswersOwn c.args.space c.args.words c.args.arenas.now reply c.place.new.arenas)
+    subst (λ (reply : Option Reply). AnswersOwn c.args.space c.args.words c.args.arenas.now reply c.place_hosted.new.hosted)
     (sym c.tell_placed.ensures)
-    (own_answers c.args.space c.args.words c.args.arenas.now c.place.new.arenas c.place.result c.place.ensures.placed
-    c.place.ensures.refused c.place.ensures.unchanged)
+    (own_answers c.args.space c.args.words c.args.arenas.now c.place_hosted.new.hosted c.place_hosted.result c.place_hosted.ensures.placed
+    c.place_hosted.ensures.refused c.place_hosted.ensures.unchanged)

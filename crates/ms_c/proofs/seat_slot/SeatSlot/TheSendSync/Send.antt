@@ -31,7 +31,8 @@ use Rattle.ms_shared.specs.contracts.seat.PoolSeat as seat
 use Rattle.ms_shared.specs.contracts.held_pool.HeldSeat as held
 use Rattle.ms_shared.specs.contracts.shared_pool.SharedPool as shared
 use Rattle.ms_c.specs.contracts.member.Member as member
-use Rattle.ms_c.specs.contracts.member.arenas.Arenas as arenas
+use Rattle.ms_c.specs.contracts.member.bare.BareArena as bare
+use Rattle.ms_c.specs.contracts.member.hosted.Hosted as hosted
 use Rattle.ms_arena.specs.contracts.arena.Arena as arena
 use Rattle.ms_c.specs.Seating.{Seated, seated_by}
 use Rattle.ms_c.specs.contracts.seat_slot.SeatSlot.{the_row, the_type}
@@ -46,8 +47,11 @@ arena_send =
     search (sendable, crosses, HashMap-send, send-Tree, send-Fork, words.the_send, account.the_send)
     depth 60 fits 30000
 
-arenas_send : IsSend arenas.the_row
-arenas_send = search (arena_send, sendable, crosses) depth 60 fits 30000
+bare_send : IsSend bare.the_row
+bare_send = search (sendable, crosses, send-Tree, send-Fork, words.the_send, account.the_send) depth 60 fits 30000
+
+hosted_send : IsSend hosted.the_row
+hosted_send = search (arena_send, bare_send, sendable, crosses) depth 60 fits 30000
 
 pool_send : IsSend pool.the_row
 pool_send = search (sendable, crosses, mask.the_send, nodes.the_send) depth 60 fits 30000
@@ -85,7 +89,7 @@ shared_sync =
 
 member_send : IsSend member.the_row
 member_send =
-    search (arc.the_send, shared_send, shared_sync, seat_send, held_send, loader_send, arenas_send, sendable, crosses)
+    search (arc.the_send, shared_send, shared_sync, seat_send, held_send, loader_send, hosted_send, sendable, crosses)
     depth 60 fits 30000
 
 held_goes : (alloc : Global) (at : Ptr) (held : Seated) → Keyless (seated_by alloc at held)
