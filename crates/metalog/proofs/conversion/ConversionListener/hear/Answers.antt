@@ -18,7 +18,7 @@ returns g c =
           (takes_in c.args.self.now c.learn.new.self (g.W.Write.contents c.args.output.now)
           (subst (UsesNames c.args.self.now.machine)
           (sym (ap (λ (its : Conversion g.row.E.Denot). its.machine) c.in_ok-learn.ensures
-          ∙ ap (λ (its : Conversion g.row.E.Denot). its.machine) c.in_ok-warn.ensures)) c.in_ok-trouble.ensures)
+          ∙ ap (λ (its : Conversion g.row.E.Denot). its.machine) c.in_ok-warn.ensures)) c.in_ok-trouble.ensures.names)
           (ap (λ (its : Conversion g.row.E.Denot). its.options) c.in_ok-learn.ensures
           ∙ ap (λ (its : Conversion g.row.E.Denot). its.options) c.in_ok-warn.ensures)
           (ap (λ (its : Conversion g.row.E.Denot). its.kept) c.in_ok-learn.ensures
