@@ -1,5 +1,5 @@
--- How many pages of a group are written, as a page is set and as pages with no place come at the end. The functions of
--- `pages` that count use these.
+-- How many pages of a group are written, as a page is set and as pages with no place come at the
+-- end. The functions of `pages` that count use these.
 use Rattle.std.proofs.Common.{◌≡◌, ℕ, ◌+◌, ◌-◌, ◌*◌, ◌/◌, ◌%◌, ◌<◌, ◌≤◌, Bool, true, false, cond, List, [], ◌∷◌, ◌++◌, length}
 use Rattle.std.proofs.Common.{get_or, replicate, refl, sym, ap, ◌∙◌, inl, inr, arith, zero, suc, subst}
 use Rattle.std.proofs.Common.{get_or-set_same, get_or-set_other}
@@ -164,7 +164,7 @@ set_lowers (one ∷ more) (suc first) m zero page low high there was is = absurd
 set_lowers (one ∷ more) (suc first) m (suc number) page low high there was is =
     set_lowers more first m number page (omega arith) (omega arith) (omega arith) was is
 
--- Counts where a page is set: another group's stays, and the page's own becomes one that is enough.
+-- Counts where a page is set: another group's stays, and the page's own is one that is enough.
 with_count : (pages : List Page) (counts : List ℕ) (number : ℕ) (page : Page) (more : List ℕ) → AreCounted pages counts
     → ((m : ℕ) → m ≡ 64 → written_from (slice_set pages number page) (64 * (number / 64)) m
     ≤ slice_index_or more (number / 64) 64)

@@ -61,7 +61,8 @@ is_written page = page.written
 abbrev pub written_from : List Page → ℕ → ℕ → ℕ
 written_from pages first m = count_by is_written (take m (drop first pages))
 
--- Of each group of 64 pages no more are written than its count says; of groups with no count nothing is said.
+-- Of each group of 64 pages no more are written than its count says; of groups with no count
+-- nothing is said.
 abbrev pub AreCounted : List Page → List ℕ → Type 0
 AreCounted pages counts = (group m : ℕ) → m ≡ 64 → written_from pages (64 * group) m ≤ slice_index_or counts group 64
 

@@ -8,10 +8,10 @@
 //! A page comes into the store when a word of it is first written, and its other words are made 0
 //! then. So a page that was never written takes no memory but its room, which nothing touches. A
 //! page that is cleared as a whole keeps its place and is only marked: it is zeroed when it is next
-//! written. A long list counts the written pages of each 64, so that to clear what was never written
-//! looks at no page. Kept true: the store has the pages with a place and no others, each at its own,
-//! and no more pages are written than are counted. Only `reserve` takes memory. HotSpot's arenas are
-//! memory themselves; this list stands for it.
+//! written. A long list counts the written pages of each 64, so that to clear what was never
+//! written looks at no page. Kept true: the store has the pages with a place and no others, each at
+//! its own, and no more pages are written than are counted. Only `reserve` takes memory. HotSpot's
+//! arenas are memory themselves; this list stands for it.
 ghost use Rattle.std.specs.Prelude.{◌≡◌, ◌≢◌, ℕ, ◌+◌, ◌-◌, ◌*◌, ◌/◌, ◌^◌, ◌<◌, ◌≤◌, OnOk, OnErr, length};
 ghost use Rattle.std.specs.Prelude.{true, false, IfOk, IsTrue, List, slice_index, slice_set, vec_capacity};
 ghost use Rattle.ms_arena.specs.declared.pages.Page.{Page as PageOf};
@@ -175,7 +175,7 @@ impl Pages {
         }
     }
 
-    /// Returns whether the pages from one up to another are of one group, of which none is written.
+    /// Returns whether pages from one up to another are of one group, of which none is written.
     fn has_none_written(&self, first: usize, past: usize) -> bool
         ensures { IsTrue result → HasNoneWritten self.now.pages first past }
     {
@@ -321,7 +321,8 @@ fn make_longer(alloc: Global, store: &mut Vec<u64>, words: usize) -> Result<(), 
 }
 
 /// Makes a count for each group of so many pages, where these are many; a group that has pages
-/// already may have all of them written. Where the allocator refuses, groups further on stay unknown.
+/// already may have all of them written. Where the allocator refuses, groups further on stay
+/// unknown.
 fn make_counts(counts: &mut Vec<usize>, pages: &[Page], room: usize)
     requires { AreCounted pages.now counts.old.items }
     ensures { AreCounted pages.now counts.new.items }
@@ -334,8 +335,8 @@ fn make_counts(counts: &mut Vec<usize>, pages: &[Page], room: usize)
     }
 }
 
-/// Lengthens the counts up to so many groups by that count: that of all pages, or of groups past the
-/// pages that there are.
+/// Lengthens the counts up to so many groups by that count: that of all pages, or of groups past
+/// the pages that there are.
 fn lengthen_counts(counts: &mut Vec<usize>, groups: usize, count: usize) -> Result<(), AllocError>
     ensures long { OnOk result (groups ≤ length counts.new.items) }
     ensures all { (pages : List PageOf) → count ≡ 64 → AreCounted pages counts.old.items
