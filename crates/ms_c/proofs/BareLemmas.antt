@@ -13,7 +13,7 @@ use Rattle.ms_base.specs.Interval.{meet, meets_any}
 use Rattle.ms_base.specs.Names.{named, without}
 use Rattle.ms_base.specs.State.{ArenaState}
 use Rattle.ms_base.specs.Good.{IsSound}
-use Rattle.ms_base.proofs.arena.KeptLemmas.{Fits, IsTakenOut, sound_with_live, sound_with_kept, live_taken_out}
+use Rattle.ms_base.proofs.arena.KeptLemmas.{IsTakenOut, sound_with_live, sound_with_kept, live_taken_out}
 use Rattle.ms_base.proofs.entries.EntryLemmas.{Split, split_at, Gap, gap_at}
 use Rattle.ms_pool.specs.Account.{AccountState}
 use Rattle.ms_arena.specs.Arena.{Places}

@@ -17,9 +17,9 @@ use Rattle.ms_c.specs.declared.member.arenas.Arenas.{Arenas}
 use Rattle.ms_c.specs.declared.member.bare.BareArenas.{BareArenas}
 use Rattle.ms_c.specs.declared.member.hosted.Hosted.{Hosted}
 use Rattle.ms_c.specs.declared.member.hosted.Hosted.TheVariants.{Known, Bare}
-use Rattle.ms_c.specs.Arenas.{arena_in, with_arena, PlacesOwn}
+use Rattle.ms_c.specs.Arenas.{arena_in, with_arena}
 use Rattle.ms_c.specs.Bare.{BareView}
-use Rattle.ms_c.specs.Hosted.{bare_in, with_bare, PlacesBare, PlacesHosted, KnowNone, LeaveNone, TellsSums}
+use Rattle.ms_c.specs.Hosted.{bare_in, with_bare, PlacesHosted, KnowNone, LeaveNone, TellsSums}
 use Rattle.ms_c.specs.Member.{MemberState, AnswersUnload, block_told}
 use Rattle.ms_c.specs.Taking.{TakesAny, TakesAlone, AnswersOwn, GivesAny, AnswersGiving, placed_told}
 use Rattle.ms_c.specs.Taking.{AnswersTake, AnswersGive, TakesBlock, AnswersUnloadArenas, AnswersUnloadOf}

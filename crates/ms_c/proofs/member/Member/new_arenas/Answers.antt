@@ -4,7 +4,6 @@ use Rattle.ms_base.specs.declared.refusal.Refusal.{Refusal}
 use Rattle.ms_c.specs.declared.member.hosted.Hosted.{Hosted}
 use Rattle.ms_c.specs.Arenas.{ServesArenas}
 use Rattle.ms_c.specs.Hosted.{shown, OpensArenas}
-use Rattle.ms_c.proofs.SeatedLemmas.{has_it}
 use Rattle.ms_c.proofs.HostedLemmas.{some_there, none_there, hosts_made}
 use Rattle.ms_c.proofs.member.Member.new_arenas.Goals as goal
 

@@ -34,8 +34,7 @@ invariant_of-self c =
     let is = c.self.inside in let held = c.take.new.self in
     let same : is.held ≡ held = sym (c.take.ensures.after ∙ c.in_default.ensures.value) in (
       subst (λ (h : Option HeldState). IsSeated (arc_value is.shared) is.seat h is.loader) same c.self.invariant.0,
-      hosts_alone c.args.space c.args.words is.arenas c.place_alone.new.arenas is.seat held is.loader c.place_alone.result
-          c.place_alone.ensures
+      hosts_alone c.args.space c.args.words is.arenas c.place_alone.new.arenas is.seat held is.loader _ c.place_alone.ensures
           (subst (λ (h : Option HeldState). HostsArenas is.arenas is.seat h is.loader) same c.self.invariant.1),
       c.self.invariant.2,
     )

@@ -1,5 +1,3 @@
-use Rattle.std.proofs.Common.{subst}
-use Rattle.ms_c.specs.Bare.{BareView, MayHaveBlock}
 use Rattle.ms_c.proofs.BareLemmas.{may_free, frees_live}
 use Rattle.ms_c.proofs.member.bare.BareArena.give.Goals as goal
 
