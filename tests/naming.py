@@ -1,7 +1,8 @@
-"""The names on a page and after full reports: what a file says of the loaders of a trace, and files that don't fit.
+"""The names on a page, in a document and after full reports: what a file says of the loaders of a trace, and files that don't fit.
 
 The n-th line of the file is that of the n-th `new` line, so each text is worked out here from the two files.
 """
+import json
 import re
 import tempfile
 
@@ -9,6 +10,7 @@ from browser import page_of, table_of
 from claims import Test, expect, expect_ended
 from elements import root_of, rows_of, text_of
 from examples import content_of
+from forms import FORM as JSON, SCHEMA, expect_follows
 from scripts import SERVER, NAMES
 
 HTML, FULL = ("--format", "html"), ("--report", "full")
@@ -100,6 +102,24 @@ def a_part_ends_the_text(bench):
     expect((ended.status, ended.output) == (0, b"1 ok\n"), ended)
 
 
+def a_document_has_its_names(bench):
+    """Beside the members that it has without names, one with a row for each `new` line, a refused one too."""
+    names = ["first", "\x01\x7f\\ \"second\"", "", "third\tof 語 𝕏", "é" * 61]
+    file = "".join(f"{made} {name}\n" for made, name in zip(MADE, names)).encode()
+    shown = ["first", "?\x7f\\ \"second\"", "", "third?of 語 𝕏", "é" * 59 + "…"]
+    for options in ([], ["--report", "full"], ["--addresses"]):
+        plain = bench.run([*JSON, *options], TRACE + b"report\n")
+        ended = page_with(bench, file, options, TRACE + b"report\n", JSON)
+        expect_ended(ended, 0)
+        whole = json.loads(plain.output)
+        whole["names"] = [list(row) for row in zip((1, 2, 4, 8, 9), MADE, shown)]
+        expect_follows(whole, SCHEMA)
+        text = json.dumps(whole, ensure_ascii=False, separators=(",", ":"), sort_keys=True)
+        expect(ended.output == text.encode() + b"\n", "the document is", ended.output, "and not", text)
+    ended = page_with(bench, b"", [], b"purge\n", JSON)
+    expect(ended.output == bench.run(JSON, b"purge\n").output, "a file of no line changes the document")
+
+
 def no_names_no_column(bench):
     """Without the option, and with a file of no line for a trace that makes no loader, nobody is called anything."""
     plain = page_of(bench, [], TRACE)
@@ -110,7 +130,7 @@ def no_names_no_column(bench):
 
 
 def misfits_are_named(bench):
-    for form in (HTML, FULL):
+    for form in (HTML, FULL, JSON):
         for names, line in MISFITS:
             ended = page_with(bench, names, [], TRACE, form)
             wanted = b"metarun: names line %d: not the next loader of the trace\n" % line
@@ -120,8 +140,9 @@ def misfits_are_named(bench):
 def unreadable_files_are_told(bench):
     """No file, a folder, and bytes that are no UTF-8."""
     for path in ("/nowhere/names", bench.room):
-        ended = bench.run([*HTML, "--names", path], TRACE)
-        expect((ended.status, ended.output, ended.errors) == (5, b"", UNREADABLE), path, ended)
+        for form in (HTML, JSON):
+            ended = bench.run([*form, "--names", path], TRACE)
+            expect((ended.status, ended.output, ended.errors) == (5, b"", UNREADABLE), path, ended)
     ended = page_with(bench, b"1 a\xff\n2 b\n1 c\n2 d\n7 e\n", [], TRACE)
     expect((ended.status, ended.output, ended.errors) == (5, b"", UNREADABLE), ended)
 
@@ -135,6 +156,7 @@ def tests():
     yield Test("a page calls each loader as the file of names says of the line that made it", names_are_those_of_the_last_maker)
     yield Test("a page cuts long names", long_names_are_cut)
     yield Test("names end a text with full reports", a_part_ends_the_text)
+    yield Test("a document has a row for each name", a_document_has_its_names)
     yield Test("a page of a server has its loaders' names", a_server_has_its_names)
     yield Test("a page has no names where no file has any", no_names_no_column)
     yield Test("a file of names that doesn't fit the trace is named by its line", misfits_are_named)

@@ -1,5 +1,5 @@
 -- Columns that show what was seen of a run, and its document. Used by `charting` and `session`.
-use Rattle.std.proofs.Common.{◌≡◌, ◌∙◌, ℕ, Bool, List, [], ◌∷◌, ◌++◌, ap, codes, length, refl, subst, sym}
+use Rattle.std.proofs.Common.{◌≡◌, ◌≢◌, ◌∙◌, ℕ, Bool, List, [], ◌∷◌, ◌++◌, None, ap, codes, length, map, refl, subst, sym}
 use Rattle.std.proofs.lemmas.List.{map-append}
 use Rattle.serde_json.specs.Written.{compact_text}
 use Rattle.ms_base.specs.State.{Machine, limits_of}
@@ -17,7 +17,9 @@ use Rattle.ms_run.specs.Observing.{IsObserved, PutsAndSees}
 use Rattle.ms_run.specs.Seeing.{Sight, sight_of}
 use Rattle.ms_trace.specs.declared.trace.Line.{Line}
 use Rattle.ms_trace.specs.declared.trace.Trace.{Trace}
+use Rattle.ms_json.specs.declared.naming.Named.{Named}
 use Rattle.metarun.specs.Charting.{Charts, moment_by, moment_of, moments_of}
+use Rattle.metarun.specs.Naming.{line_of, made_in}
 use Rattle.metarun.specs.Session.{IsDocument}
 use Rattle.metarun.specs.declared.asked.Options.{Options}
 use Rattle.metarun.specs.declared.charting.Chart.{Chart}
@@ -47,15 +49,16 @@ charts first now sights = Charts first.columns now.columns sights
 
 -- The document of a run whose answers a document took and whose lines a chart saw.
 pub document_is : (options : Options) (trace : Trace) (empty full : DocumentView) (none all : Chart) (last : Totals)
-    (count : ℕ) (columns : List Column) (output : List ℕ)
+    (count : ℕ) (columns : List Column) (names : List Named) (output : List ℕ)
     → empty ≡ no_answer options.addresses → Shows none.columns [] → none.columns.lines ≡ length trace.lines
     → PutsAndSees Tells charts
     (λ answers sights. IsObserved (limits_of options.settings) trace.lines answers sights last) empty full none all
     → count ≡ length trace.lines → columns ≡ all.columns.columns
+    → (options.names ≡ None → names ≡ []) → (options.names ≢ None → map line_of names ≡ made_in trace.lines)
     → ((answers : List Answer) → Tells (no_answer full.addresses) full answers
-    → output ≡ compact_text (document full.addresses options.settings count answers columns last) ++ codes "\n")
+    → output ≡ compact_text (document full.addresses options.settings count answers columns last names) ++ codes "\n")
     → IsDocument options trace output
-document_is options trace empty full none all last count columns output begins shows lines ran counts are finished = record {
+document_is options trace empty full none all last count columns names output begins shows lines ran counts are unnamed named finished = record {
   answers = ran.0;
   sights = ran.1;
   columns = all.columns;
@@ -63,6 +66,9 @@ document_is options trace empty full none all last count columns output begins s
   observed = ran.4;
   shown = seen.shown shows;
   lines = seen.lines ∙ lines;
+  names = names;
+  unnamed = unnamed;
+  named = named;
   output_is =
       subst (λ (b : Bool). output ≡ text_of b count columns) told.addresses
       (finished ran.0 (subst (λ (b : Bool). Tells (no_answer b) full ran.0) (sym told.addresses) told))
@@ -72,7 +78,7 @@ document_is options trace empty full none all last count columns output begins s
   where
     text_of : Bool → ℕ → List Column → List ℕ
     text_of addresses number list =
-        compact_text (document addresses options.settings number ran.0 list last) ++ codes "\n"
+        compact_text (document addresses options.settings number ran.0 list last names) ++ codes "\n"
 
     told : Tells (no_answer options.addresses) full ran.0
     told = ran.2 (no_answer options.addresses) []

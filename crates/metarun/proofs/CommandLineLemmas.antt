@@ -134,7 +134,7 @@ alone_is_no_help words (Err refused) (inl says) =
 alone_is_no_help words (Err refused) (inr (inl says)) =
     says_no_help words (codes "metarun: --format html or json needs --workers 1\n") refused says
 alone_is_no_help words (Err refused) (inr (inr says)) =
-    says_no_help words (codes "metarun: --names needs --format html or --report full\n") refused says
+    says_no_help words (codes "metarun: --names needs --format html or json, or --report full\n") refused says
 
 -- What was chosen from the matches is what the words ask for.
 pub chosen_is_asked : (app : App) (words : List Text) (rows : List Row) (chosen : Result Options Refused)

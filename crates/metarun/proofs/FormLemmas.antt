@@ -40,32 +40,7 @@ pub any_page : {S : Type 0} (bytes_of : S → List ℕ) (options : Options) (tra
 any_page bytes_of options trace (Ok written) = tt
 any_page bytes_of options trace (Err why) = tt
 
--- Want is no fault of the trace, and leaves no account open.
-pub want_blames : {S : Type 0} (limit : ℕ) (old : Option (List ℕ)) (given : Result S Failure) → IfErr given IsWant
-    → IfErr given (λ why. IfSome old (λ bytes. Blames limit bytes why))
-want_blames limit old (Ok written) want = tt
-want_blames limit None (Err why) want = tt
-want_blames limit (Some bytes) (Err failure.OutOfMemory) want = tt
-want_blames limit (Some bytes) (Err failure.NoThread) want = tt
-want_blames limit (Some bytes) (Err (failure.Fault fault)) want = absurd want
-want_blames limit (Some bytes) (Err (failure.Unsettled opened gathered)) want = absurd want
-want_blames limit (Some bytes) (Err failure.Input) want = absurd want
-want_blames limit (Some bytes) (Err failure.NamesFile) want = absurd want
-want_blames limit (Some bytes) (Err (failure.Misnamed line)) want = absurd want
-want_blames limit (Some bytes) (Err failure.Output) want = absurd want
-
-pub want_settles : {S : Type 0} (given : Result S Failure) → IfErr given IsWant → IfErr given IsSettled
-want_settles (Ok written) want = tt
-want_settles (Err failure.OutOfMemory) want = tt
-want_settles (Err failure.NoThread) want = tt
-want_settles (Err (failure.Fault fault)) want = absurd want
-want_settles (Err (failure.Unsettled opened gathered)) want = absurd want
-want_settles (Err failure.Input) want = absurd want
-want_settles (Err failure.NamesFile) want = absurd want
-want_settles (Err (failure.Misnamed line)) want = absurd want
-want_settles (Err failure.Output) want = absurd want
-
--- Nor is a file of names.
+-- Want is no fault of the trace, nor is a file of names, and it leaves no account open.
 pub pageless_blames : {S : Type 0} (limit : ℕ) (old : Option (List ℕ)) (given : Result S Failure)
     → IfErr given IsPageless → IfErr given (λ why. IfSome old (λ bytes. Blames limit bytes why))
 pageless_blames limit old (Ok written) pageless = tt

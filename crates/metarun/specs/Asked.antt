@@ -14,9 +14,9 @@ use Rattle.metarun.specs.declared.asked.Options.{Options}
 use Rattle.metarun.specs.declared.options.Refused.{Refused}
 use Rattle.metarun.specs.declared.options.Refused.TheVariants.{Help, OutOfMemory, Usage}
 
--- Names are shown on a page, and after a text with full reports.
+-- Names are shown on a page, in a document, and after a text with full reports.
 abbrev pub ShowsNames : Form → Detail → Type 0
-ShowsNames its detail = (its ≡ form.Html) ⊎ ((its ≡ form.Text) × (detail ≡ Full))
+ShowsNames its detail = (its ≢ form.Text) ⊎ (detail ≡ Full)
 
 -- The numbers lie in their ranges, only one worker tells addresses, a form other than text has one
 -- worker, and names are shown.
@@ -109,8 +109,8 @@ abbrev pub IsTold : Refused → Type 0
 IsTold (Help text) = ⊤
 IsTold _ = ⊥
 
--- The rows have addresses or a form, which only one worker may be asked for, or names, which only a
--- page and full reports show.
+-- The rows have addresses or a form, which only one worker may be asked for, or names, which basic
+-- reports don't show.
 abbrev pub AskMore : List Row → Type 0
 AskMore rows =
     (one_of (codes "addresses") rows ≢ None)
@@ -128,4 +128,4 @@ abbrev pub SaysWhy : Refused → Type 0
 SaysWhy refused =
     Says (codes "metarun: --addresses needs --workers 1\n") refused
     ⊎ (Says (codes "metarun: --format html or json needs --workers 1\n") refused
-    ⊎ Says (codes "metarun: --names needs --format html or --report full\n") refused)
+    ⊎ Says (codes "metarun: --names needs --format html or json, or --report full\n") refused)

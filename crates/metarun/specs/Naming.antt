@@ -4,7 +4,7 @@ use Rattle.ms_base.specs.declared.step.Step.TheVariants.{New}
 use Rattle.ms_trace.specs.declared.trace.Command.{Command}
 use Rattle.ms_trace.specs.declared.trace.Command.TheVariants.{Step as Asks}
 use Rattle.ms_trace.specs.declared.trace.Line.{Line}
-use Rattle.metarun.specs.declared.naming.Named.{Named}
+use Rattle.ms_json.specs.declared.naming.Named.{Named}
 
 -- The loader that a command asks to be made, where it is `new`.
 abbrev pub made_by : Command → Option ℕ

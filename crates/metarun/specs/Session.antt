@@ -1,5 +1,5 @@
 -- What a session writes for a trace (this project's choice).
-use Rattle.std.specs.Prelude.{⊤, ◌≡◌, ◌⊎◌, ℕ, List, [], ◌∷◌, ◌++◌, Option, None, Some, IfSome, codes, length, take}
+use Rattle.std.specs.Prelude.{⊤, ◌≡◌, ◌≢◌, ◌⊎◌, ℕ, List, [], ◌∷◌, ◌++◌, Option, None, Some, IfSome, codes, length, map, take}
 use Rattle.std.specs.Io.KnownBytes.{Appends, IsAtEnd, Keeps}
 use Rattle.std.specs.List.{All}
 use Rattle.ms_base.specs.declared.step.Reply.{Reply}
@@ -22,12 +22,14 @@ use Rattle.ms_loaders.specs.declared.totals.Totals.{Totals}
 use Rattle.serde_json.specs.Written.{compact_text}
 use Rattle.ms_course.specs.Course.{ColumnsView, Shows}
 use Rattle.ms_json.specs.Document.{document}
+use Rattle.ms_json.specs.declared.naming.Named.{Named}
 use Rattle.ms_run.specs.Course.{Course, begun, passed}
 use Rattle.ms_run.specs.Peaks.{ArePeaks}
 use Rattle.ms_run.specs.Observing.{IsObserved}
 use Rattle.ms_run.specs.Replay.{Advances, IsDetailed, IsReplay}
 use Rattle.ms_run.specs.Seeing.{Sight}
 use Rattle.metarun.specs.Charting.{moments_of}
+use Rattle.metarun.specs.Naming.{line_of, made_in}
 use Rattle.metarun.specs.declared.asked.Form.{Form}
 use Rattle.metarun.specs.declared.asked.Form.TheVariants.{Text, Html, Json}
 use Rattle.metarun.specs.declared.asked.Options.{Options}
@@ -72,7 +74,8 @@ pub record IsText (options : Options) (trace : Trace) (output : List ℕ) : Type
 
 -- The output is one document and a newline: that of the answers of one worker, who runs through all
 -- commands in their order from the empty state with full reports; of columns that show each state
--- that is reached so; and of the totals of the last.
+-- that is reached so; of the totals of the last; and of a name for each `new` line, where a file of names
+-- is asked for.
 pub record IsDocument (options : Options) (trace : Trace) (output : List ℕ) : Type 0 where
   pub answers : List Answer
   pub sights : List Sight
@@ -81,8 +84,11 @@ pub record IsDocument (options : Options) (trace : Trace) (output : List ℕ) : 
   pub observed : IsObserved (limits_of options.settings) trace.lines answers sights last
   pub shown : Shows columns (moments_of sights)
   pub lines : columns.lines ≡ length trace.lines
+  pub names : List Named
+  pub unnamed : options.names ≡ None → names ≡ []
+  pub named : options.names ≢ None → map line_of names ≡ made_in trace.lines
   pub output_is : output
-      ≡ compact_text (document options.addresses options.settings (length trace.lines) answers columns.columns last)
+      ≡ compact_text (document options.addresses options.settings (length trace.lines) answers columns.columns last names)
       ++ codes "\n"
 
 -- What a trace gives in a form. No clause speaks of a page's text: `watched` says of which run its course and

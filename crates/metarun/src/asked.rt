@@ -26,7 +26,7 @@ pub struct Options<'a> {
     pub form: Form,
     /// The most lines that a trace may have, 1 to 10000000.
     pub max_lines: u32,
-    /// The file that says what the loaders are; a page alone shows it.
+    /// The file that says what the loaders are, for a page, a document or full reports.
     pub names: Option<&'a str>,
     pub ghost lines_some: { 1 ≤ max_lines },
     pub ghost lines_few: { max_lines ≤ 10000000 },

@@ -5,7 +5,7 @@
 //! Kept true: the lines of the file are those of the `new` lines of the trace, in their order, each
 //! with the number of its loader. `metalog --names` writes such a file. Takes memory for the texts;
 //! nothing waits.
-ghost use Rattle.std.specs.Prelude.{◌≡◌, ◌++◌, ◌∷◌, [], None, IfErr, IfOk, OnOk, map, string_bytes};
+ghost use Rattle.std.specs.Prelude.{◌≡◌, ◌≢◌, ◌++◌, ◌∷◌, [], None, IfErr, IfOk, OnOk, map, string_bytes};
 ghost use Rattle.metarun.specs.Naming.{AddsNames, line_of, made_by, made_in};
 ghost use Rattle.metarun.specs.Failure.{IsPageless};
 
@@ -14,6 +14,7 @@ use crate::devices::{ReadFault, read_text};
 use crate::failure::Failure;
 use ms_base::Step;
 use ms_course::Course;
+use ms_json::Named;
 use ms_trace::{Command, Line};
 use std::alloc::{AllocError, Global};
 use std::collections::BTreeMap;
@@ -23,22 +24,11 @@ use std::rt::Files;
 /// The most bytes that are read of a file of names; a longer one doesn't fit.
 const MOST_BYTES: usize = 268_435_456;
 
-/// The most characters of a name that a page shows.
+/// The most characters of a name that are shown.
 const MOST_CHARACTERS: usize = 60;
 
-/// What a file of names says of the loader that a line of the trace makes.
-#[derive(Drop)]
-pub struct Named {
-    /// The number of the line.
-    pub line: u32,
-    /// The loader's name in the trace.
-    pub loader: u16,
-    /// The text, at most 60 characters.
-    pub text: String,
-}
-
 /// Reads the file of names for the lines of a trace, where the options have one, as `read_names` does;
-/// returns nothing where they have none.
+/// returns nothing where they have none. A text has at most 60 characters.
 pub fn names_asked<T: Files>(
     rt: &T,
     alloc: Global,
@@ -46,6 +36,8 @@ pub fn names_asked<T: Files>(
     lines: &[Line],
 ) -> Result<Vec<Named>, Failure>
     ensures none { options.now.names ≡ None → IfOk result (λ named. named.items ≡ []) }
+    ensures made { options.now.names ≢ None
+        → IfOk result (λ named. map line_of named.items ≡ made_in lines.now) }
     ensures pageless { IfErr result IsPageless }
 {
     match options.names {

@@ -43,8 +43,8 @@ pub enum Refused {
 /// the faults is a use of `--help` or of `--version`, `Usage` for an unknown or repeated option, a
 /// missing value, or one out of its range, and where more than one worker is asked for blocks'
 /// addresses, since a schedule decides them, or for a form other than text, which shows the states
-/// that the lines lead to one after the other, and where names are asked for that neither a
-/// page nor a text with full reports shows.
+/// that the lines lead to one after the other, and where names are asked for that basic reports
+/// don't show.
 /// Takes memory. This project's choice.
 pub fn options_of<'a, S: AsStr>(alloc: Global, words: &'a [S]) -> Result<Options<'a>, Refused>
     ensures allowed { IfOk result IsAllowed }
@@ -86,8 +86,8 @@ const ADDRESSES_ALONE: &str = "metarun: --addresses needs --workers 1\n";
 /// The line where a page or a document is.
 const FORM_ALONE: &str = "metarun: --format html or json needs --workers 1\n";
 
-/// The line where names are asked for, and neither a page nor full reports.
-const NAMES_SHOWN: &str = "metarun: --names needs --format html or --report full\n";
+/// The line where names are asked for, and a text with basic reports.
+const NAMES_SHOWN: &str = "metarun: --names needs --format html or json, or --report full\n";
 
 /// Refuses a command line with this line for standard error.
 fn refused_with(alloc: Global, line: &str) -> Refused
@@ -100,7 +100,7 @@ fn refused_with(alloc: Global, line: &str) -> Refused
 }
 
 /// Collects what was chosen. Only one worker may show addresses, or write another form than text, and
-/// only a page and full reports show names.
+/// basic reports show no names.
 fn chosen<'a>(alloc: Global, matches: &ArgMatches<'a>) -> Result<Options<'a>, Refused>
     ensures allowed { IfOk result IsAllowed }
     ensures read { IfOk result (AreRead (rows_of (found_of matches.now))) }
@@ -254,13 +254,13 @@ fn names_in<'a>(matches: &ArgMatches<'a>) -> Option<&'a str>
     matches.get_str("names")
 }
 
-/// Returns whether names are shown: on a page, and after a text with full reports.
+/// Returns whether names are shown: on a page, in a document, and after a text with full reports.
 fn shows_names(form: Form, detail: Detail) -> bool
     ensures { IsTrue result ↔ ShowsNames form detail }
 {
     match (form, detail) {
-        (Form::Html, _) | (Form::Text, Detail::Full) => true,
-        _ => false,
+        (Form::Text, Detail::Basic) => false,
+        (Form::Html | Form::Json, _) | (Form::Text, Detail::Full) => true,
     }
 }
 
@@ -473,6 +473,6 @@ fn names<'a>(alloc: Global) -> Arg<'a>
         .long("names")
         .value_name("FILE")
         .help(
-            "Show with html, or after full reports, what FILE says of each 'new' line: loader, space, text",
+            "Show in pages, documents and full reports what FILE says of each 'new' line: loader, space, text",
         )
 }

@@ -4,7 +4,7 @@ ghost use Rattle.std.specs.Prelude.{◌≡◌, ◌⊎◌, ◌≤◌, ◌<◌, �
 ghost use Rattle.std.specs.Io.KnownBytes.{Keeps};
 ghost use Rattle.ms_trace.specs.declared.fault.FaultKind.{FaultKind};
 ghost use Rattle.ms_trace.specs.Faults.{HasFault};
-ghost use Rattle.metarun.specs.Failure.{Blames, IsPageless, IsSettled, IsWant};
+ghost use Rattle.metarun.specs.Failure.{Blames, IsPageless, IsSettled};
 ghost use Rattle.metarun.specs.Session.{IsDocument, IsOutput, IsAnswered, IsBrokenOff, IsText, IsWhole};
 
 use crate::asked::{Form, Options};
@@ -82,7 +82,7 @@ fn answer_to<T: Threads + Wait + Files + Sync, R: Read>(
     match options.form {
         Form::Text => text_of(rt, alloc, options, &trace, room),
         Form::Html => page_of(rt, alloc, options, &trace, room),
-        Form::Json => document_of(alloc, options, &trace, room),
+        Form::Json => document_of(rt, alloc, options, &trace, room),
     }
 }
 
@@ -107,9 +107,10 @@ fn text_of<T: Threads + Wait + Files + Sync>(
     Ok(text)
 }
 
-/// Runs a trace by one worker, and returns the document of its answers, its course and its end, in
-/// this room.
-fn document_of(
+/// Runs a trace by one worker, and returns the document of its answers, its course, its end, and the
+/// names of its loaders where a file has them, in this room.
+fn document_of<T: Files>(
+    rt: &T,
     alloc: Global,
     options: &Options,
     trace: &Trace,
@@ -117,14 +118,16 @@ fn document_of(
 ) -> Result<String, Failure>
     requires few { length trace.now.lines < 2 ^ 32 }
     ensures ok { IfOk result (λ text. IsDocument options.now trace.now (string_bytes text)) }
-    ensures err { IfErr result IsWant }
+    ensures err { IfErr result IsPageless }
 {
     let lines = trace.lines.as_slice().len() as u32;
     let settings = options.settings;
+    let named = names_asked(rt, alloc, options, trace.lines.as_slice())?;
     let mut chart = Chart::new(alloc, lines)?;
     let mut document = Document::new(alloc, room, options.addresses)?;
     let end = replay_observed(alloc, trace, settings, &mut document, &mut chart)?;
-    let text = document.finish(&settings, lines, chart.columns.columns(), &end)?;
+    let columns = chart.columns.columns();
+    let text = document.finish(alloc, &settings, lines, columns, &end, named.as_slice())?;
     Ok(text)
 }
 

@@ -21,6 +21,7 @@ use Rattle.ms_report.proofs.ReplyLemmas.{counts_more, few_below, refusals_more}
 use Rattle.ms_json.specs.Document.{DocumentView, Tells, answer_data, closed, elements_after, is_done, no_answer, reported, states_after}
 use Rattle.ms_json.specs.Document.{document, last_rows, middle_rows, told_by, with_line}
 use Rattle.ms_json.specs.Rows.{Row, elements_run, is_later, labelled, list_of, rows_then}
+use Rattle.ms_json.specs.declared.naming.Named.{Named}
 use Rattle.ms_json.specs.declared.run.Run.{Run}
 use Rattle.ms_json.proofs.ChainLemmas.{members_last, members_then, rows_before}
 use Rattle.ms_json.proofs.WritingLemmas.{items_after, items_are}
@@ -154,13 +155,13 @@ few_more text whole refusals counted later addresses pending answer few adds cou
 
 -- The whole text: what came of the answers, the members in the middle, the reports, the last members.
 whole_text : (addresses : Bool) (settings : Settings) (lines : ℕ) (answers : List Answer) (columns : List Column)
-    (end : Totals) (now : DocumentView) (t1 t2 text : List ℕ) → Tells (no_answer addresses) now answers
+    (end : Totals) (names : List Named) (now : DocumentView) (t1 t2 text : List ℕ) → Tells (no_answer addresses) now answers
     → t1 ≡ now.text ++ elements_run now.later (closed now.pending)
-    → t2 ≡ t1 ++ (93 ∷ rows_then (middle_rows lines columns now.refusals end) [])
+    → t2 ≡ t1 ++ (93 ∷ rows_then (middle_rows lines columns now.refusals end names) [])
     → text ≡ t2 ++ (codes ",\"reports\":[" ++ (now.reports ++ (93 ∷ rows_then (last_rows settings) (codes "}\n"))))
-    → text ≡ compact_text (document addresses settings lines answers columns end) ++ codes "\n"
+    → text ≡ compact_text (document addresses settings lines answers columns end names) ++ codes "\n"
 unfolding escape_byte
-whole_text addresses settings lines answers columns end now t1 t2 text its first second third =
+whole_text addresses settings lines answers columns end names now t1 t2 text its first second third =
     third
     ∙ ap (λ (t : List ℕ). t ++ reports_part) (second ∙ ap (λ (t : List ℕ). t ++ (93 ∷ rows_then middle [])) first)
     ∙ regroup now.text (elements_run now.later (closed now.pending)) (rows_then middle []) reports_part
@@ -170,13 +171,13 @@ whole_text addresses settings lines answers columns end now t1 t2 text its first
     ∙ ap (λ (t : List ℕ). (codes "{\"answers\":[" ++ elements) ++ t) (sym (rows_before middle last_members (codes "\n")))
     ∙ sym (append_assoc (codes "{\"answers\":[" ++ elements) (rows_then middle last_members) (codes "\n"))
     ∙ ap (λ (counts : Refusals). ((codes "{\"answers\":[" ++ elements)
-    ++ rows_then (middle_rows lines columns counts end) last_members) ++ codes "\n") its.refusals
+    ++ rows_then (middle_rows lines columns counts end names) last_members) ++ codes "\n") its.refusals
     ∙ ap (λ (t : List ℕ). ((codes "{\"answers\":[" ++ elements) ++ t) ++ codes "\n")
-    (sym (members_then (middle_rows lines columns (refusals_of (replies_in answers)) end)
+    (sym (members_then (middle_rows lines columns (refusals_of (replies_in answers)) end names)
     ((codes "reports", list_of (states_after [] answers)) ∷ last_rows settings)))
   where
     middle : List Row
-    middle = middle_rows lines columns now.refusals end
+    middle = middle_rows lines columns now.refusals end names
 
     reports_part : List ℕ
     reports_part = codes ",\"reports\":[" ++ (now.reports ++ (93 ∷ rows_then (last_rows settings) (codes "}\n")))
@@ -218,14 +219,14 @@ whole_text addresses settings lines answers columns end now t1 t2 text its first
 
 -- The same of a document that is seen so.
 pub whole_of : (addresses : Bool) (settings : Settings) (lines : ℕ) (answers : List Answer) (columns : List Column)
-    (end : Totals) (view now : DocumentView) (t1 t2 text : List ℕ) → view ≡ now
+    (end : Totals) (names : List Named) (view now : DocumentView) (t1 t2 text : List ℕ) → view ≡ now
     → Tells (no_answer addresses) now answers
     → t1 ≡ view.text ++ elements_run view.later (closed view.pending)
-    → t2 ≡ t1 ++ (93 ∷ rows_then (middle_rows lines columns view.refusals end) [])
+    → t2 ≡ t1 ++ (93 ∷ rows_then (middle_rows lines columns view.refusals end names) [])
     → text ≡ t2 ++ (codes ",\"reports\":[" ++ (view.reports ++ (93 ∷ rows_then (last_rows settings) (codes "}\n"))))
-    → text ≡ compact_text (document addresses settings lines answers columns end) ++ codes "\n"
-whole_of addresses settings lines answers columns end view now t1 t2 text same its first second third =
-    whole_text addresses settings lines answers columns end view t1 t2 text
+    → text ≡ compact_text (document addresses settings lines answers columns end names) ++ codes "\n"
+whole_of addresses settings lines answers columns end names view now t1 t2 text same its first second third =
+    whole_text addresses settings lines answers columns end names view t1 t2 text
     (subst (λ (v : DocumentView). Tells (no_answer addresses) v answers) (sym same) its) first second third
 
 -- A document that is so after an answer tells it too.

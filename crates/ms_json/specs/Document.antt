@@ -19,9 +19,11 @@ use Rattle.ms_loaders.specs.declared.totals.Totals.{Totals}
 use Rattle.ms_report.specs.Refused.{refusals_of}
 use Rattle.ms_report.specs.ReplyLines.{replies_in}
 use Rattle.ms_report.specs.declared.refused.Refusals.{Refusals}
+use Rattle.ms_json.specs.Names.{name_rows}
 use Rattle.ms_json.specs.Rows.{Row, list_of, natural, object_of}
 use Rattle.ms_json.specs.Series.{course_data}
 use Rattle.ms_json.specs.Sums.{kinds_data, loader_data, peaks_data, refused_data, root_data, settings_data, spaces_data}
+use Rattle.ms_json.specs.declared.naming.Named.{Named}
 use Rattle.ms_json.specs.declared.run.Run.{Run}
 
 -- A reply is told as `ok`.
@@ -112,24 +114,24 @@ states_after before [] = []
 states_after before (answer ∷ answers) =
     reported (refusals_of before) answer.line answer.report ++ states_after (before ++ answer.reply ∷ []) answers
 
--- The members after `answers`, up to the state at the end.
-abbrev pub middle_rows : ℕ → List Column → Refusals → Totals → List Row
-middle_rows lines columns refusals end =
+-- The members between `answers` and `reports`: the last are names, where a file says them.
+abbrev pub middle_rows : ℕ → List Column → Refusals → Totals → List Named → List Row
+middle_rows lines columns refusals end names =
     (codes "command lines", natural lines)
     ∷ (codes "course", course_data columns)
     ∷ (codes "end", totals_data None refusals end)
     ∷ (codes "form", string (codes "metarun 1"))
-    ∷ []
+    ∷ name_rows names
 
 -- Those after `reports`.
 abbrev pub last_rows : Settings → List Row
 last_rows settings = (codes "settings", settings_data settings) ∷ (codes "word bytes", natural 8) ∷ []
 
 -- The document.
-abbrev pub document : Bool → Settings → ℕ → List Answer → List Column → Totals → Data
-document addresses settings lines answers columns end = object_of (
+abbrev pub document : Bool → Settings → ℕ → List Answer → List Column → Totals → List Named → Data
+document addresses settings lines answers columns end names = object_of (
     (codes "answers", list_of (elements_after addresses None answers))
-    ∷ middle_rows lines columns (refusals_of (replies_in answers)) end
+    ∷ middle_rows lines columns (refusals_of (replies_in answers)) end names
     ++ (codes "reports", list_of (states_after [] answers))
     ∷ last_rows settings)
 

@@ -6,6 +6,7 @@ ghost use Rattle.ms_json.specs.Document.{DocumentView, Tells, document, last_row
 ghost use Rattle.ms_json.specs.Document.{no_answer, reported, told_by};
 ghost use Rattle.ms_json.specs.Rows.{elements_run, is_later, rows_then};
 
+use crate::naming::{Named, push_names};
 use crate::run::{Run, push_closed, push_told};
 use crate::series::push_course;
 use crate::state::{push_settings, push_state};
@@ -109,25 +110,28 @@ impl Document {
 
 impl Document {
     /// Returns the whole document: beside the answers that were put, the settings of the run, how many
-    /// command lines its trace has, the columns of its course, and the totals of its end. Its text
-    /// is what serde_json's `to_string` writes of it, and a newline. Takes memory for the text; an
-    /// error means that a growth was refused. This project's choice.
+    /// command lines its trace has, the columns of its course, the totals of its end, and what a file
+    /// says of its loaders, if any. Its text is what serde_json's `to_string` writes of it, and a
+    /// newline. Takes memory for the text; an error means that a growth was refused. This project's
+    /// choice.
     pub fn finish(
         self,
+        alloc: Global,
         settings: &Settings,
         lines: u32,
         columns: &[Column],
         end: &Totals,
+        names: &[Named],
     ) -> Result<String, AllocError>
         ensures { IfOk result (λ text. (answers : List AnswerOf)
             → Tells (no_answer self.addresses) self answers → string_bytes text
-            ≡ compact_text (document self.addresses settings.now lines answers columns.now end.now)
+            ≡ compact_text (document self.addresses settings.now lines answers columns.now end.now names.now)
             ++ codes "\n") }
     {
         let mut text = self.text;
         let mut later = self.later;
         push_closed(&mut text, &mut later, self.pending)?;
-        push_middle(&mut text, lines, columns, &self.refusals, end)?;
+        push_middle(alloc, &mut text, lines, columns, &self.refusals, end, names)?;
         push_rest(&mut text, &self.reports, settings)?;
         Ok(text)
     }
@@ -135,14 +139,16 @@ impl Document {
 
 /// Appends the end of `answers`, and the members between them and `reports`.
 fn push_middle(
+    alloc: Global,
     text: &mut String,
     lines: u32,
     columns: &[Column],
     refusals: &Refusals,
     end: &Totals,
+    names: &[Named],
 ) -> Result<(), AllocError>
     ensures { OnOk result (string_bytes text.new ≡ string_bytes text.old
-        ++ (93 ∷ rows_then (middle_rows lines columns.now refusals.now end.now) [])) }
+        ++ (93 ∷ rows_then (middle_rows lines columns.now refusals.now end.now names.now) [])) }
 {
     text.push_str("]")?;
     push_label(text, true, "command lines")?;
@@ -152,7 +158,8 @@ fn push_middle(
     push_label(text, true, "end")?;
     push_state(text, None, refusals, end)?;
     push_label(text, true, "form")?;
-    push_word(text, "metarun 1")
+    push_word(text, "metarun 1")?;
+    push_names(alloc, text, names)
 }
 
 /// Appends the states of reports, the settings, the bytes of a word, and the document's end.

@@ -14,9 +14,11 @@
 
 mod document;
 mod leaf;
+mod naming;
 mod run;
 mod series;
 mod state;
 mod writing;
 
 pub use document::Document;
+pub use naming::Named;

@@ -138,7 +138,7 @@ fn push_run(text: &mut String, run: Run) -> Result<(), AllocError>
 }
 
 /// Appends the bracket and the two numbers that begin an element.
-fn push_lines(text: &mut String, first: u32, last: u32) -> Result<(), AllocError>
+pub(crate) fn push_lines(text: &mut String, first: u32, last: u32) -> Result<(), AllocError>
     ensures { OnOk result (string_bytes text.new
         ≡ string_bytes text.old ++ (codes "[" ++ (decimal first ++ (codes "," ++ (decimal last ++ codes ","))))) }
 {

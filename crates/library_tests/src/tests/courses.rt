@@ -191,7 +191,8 @@ fn document(alloc: Global) -> Result<String, AllocError> {
     let system = System::new(alloc, Settings::DEFAULT)?;
     let end = system.totals()?;
     drop(system);
-    let text = document.finish(&Settings::DEFAULT, 1, columns.columns(), &end)?;
+    let settings = Settings::DEFAULT;
+    let text = document.finish(alloc, &settings, 1, columns.columns(), &end, &[])?;
     drop(columns);
     drop(end);
     Ok(text)

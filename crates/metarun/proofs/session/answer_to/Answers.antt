@@ -5,8 +5,7 @@ use Rattle.ms_trace.specs.Faults.{BlamesText}
 use Rattle.ms_trace.specs.Spelling.{ReadsAs}
 use Rattle.metarun.specs.Session.{IsWhole}
 use Rattle.metarun.specs.declared.asked.Form.TheVariants.{Text, Html, Json}
-use Rattle.metarun.proofs.FormLemmas.{answers_whole, any_page, few_lines, pageless_blames, pageless_settles, want_blames}
-use Rattle.metarun.proofs.FormLemmas.{want_settles}
+use Rattle.metarun.proofs.FormLemmas.{answers_whole, any_page, few_lines, pageless_blames, pageless_settles}
 use Rattle.metarun.proofs.InputLemmas.{blames_whole, is_whole}
 use Rattle.metarun.proofs.session.answer_to.Goals as goal
 use Rattle.metarun.proofs.session.answer_to.Goals.{After-emptied-room}
@@ -87,8 +86,8 @@ returns-clause-ok g c =
 
 pub returns-clause-err : goal.returns-clause-err
 returns-clause-err g c =
-    want_blames c.args.options.now.max_lines (g.R.Read.remaining c.args.input.now) c.document_of.result
+    pageless_blames c.args.options.now.max_lines (g.R.Read.remaining c.args.input.now) c.document_of.result
     c.document_of.ensures.err
 
 pub returns-clause-settled : goal.returns-clause-settled
-returns-clause-settled g c = want_settles c.document_of.result c.document_of.ensures.err
+returns-clause-settled g c = pageless_settles c.document_of.result c.document_of.ensures.err
