@@ -56,8 +56,8 @@ fn tell_owners(rt: &HostRuntime, pool: &Pool) {
 /// Prints an account: its space, and its chunks in the order taken.
 pub(crate) fn tell_account(rt: &HostRuntime, account: &Account) {
     tell(rt, &account.space());
-    for place in 0..account.held() {
-        tell(rt, &account.chunk(place));
+    for index in 0..account.held() {
+        tell(rt, &account.chunk(index));
     }
 }
 
@@ -65,8 +65,8 @@ pub(crate) fn tell_account(rt: &HostRuntime, account: &Account) {
 /// order taken.
 pub(crate) fn account_lines(rt: &HostRuntime, about: &str, account: &Account) {
     line(rt, about, &(account.owner(), account.space()));
-    for place in 0..account.held() {
-        line(rt, about, &account.chunk(place));
+    for index in 0..account.held() {
+        line(rt, about, &account.chunk(index));
     }
 }
 

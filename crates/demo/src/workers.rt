@@ -1,5 +1,5 @@
 //! Two loaders that two threads work over one pool: at the end of each phase pool and loaders are
-//! settled to one system, and the workers change places. Whatever the schedule, each line is
+//! settled to one system, and the workers change seats. Whatever the schedule, each line is
 //! answered so; the words in use are those of the loader that is left.
 use ms_base::{Policy, Reply, Settings};
 use ms_run::{NoGate, replay};

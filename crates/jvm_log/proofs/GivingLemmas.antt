@@ -99,8 +99,8 @@ pub allocating_full : (space : Space) (asked : Option Request) (owner : Option L
 allocating_full space asked owner request its is owns most =
     allocating_if space asked owner request its is owns ∙ ap (if_left space request its) (le-ltb (its.next + 1) (2 ^ 32) most)
 
-pub puts_some : (place at : Option ℕ) (command : Option Command) (old new : Held) (line : Placed) → command ≡ Some line.command
-    → place ≡ at → PutsLine at line old new → Puts place command old (waiting new.entries.items)
-puts_some place at command old new line is same put =
-    subst (λ (c : Option Command). Puts place c old (waiting new.entries.items)) (sym is)
+pub puts_some : (number at : Option ℕ) (command : Option Command) (old new : Held) (line : Placed) → command ≡ Some line.command
+    → number ≡ at → PutsLine at line old new → Puts number command old (waiting new.entries.items)
+puts_some number at command old new line is same put =
+    subst (λ (c : Option Command). Puts number c old (waiting new.entries.items)) (sym is)
     (line, new, refl, subst (λ (p : Option ℕ). PutsLine p line old new) (sym same) put, refl)

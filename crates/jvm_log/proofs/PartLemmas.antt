@@ -45,7 +45,7 @@ unfolding with_digit
 with_digit_of None value digit wide = rw (le-ltb (value * 16 + digit) (2 ^ 64) (omega (arith, wide))) refl
 with_digit_of (Some more) value digit fits = rw (lt-ltb (value * 16 + digit) (2 ^ 64) fits.0) (ap Some fits.1)
 
--- The digits from a place on, after those before it.
+-- The digits from an index on, after those before it.
 pub value_more : (digits : List ℕ) (i value digit more : ℕ) → i < length digits → Some digit ≡ small_digit (get_or digits i 0)
     → Some more ≡ with_digit value digit → value_after value (drop i digits) ≡ value_after more (drop (i + 1) digits)
 value_more digits i value digit more inside known fits =

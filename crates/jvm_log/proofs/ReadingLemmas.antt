@@ -29,13 +29,13 @@ committed_read node base words message first second third one other next last p 
     let h' = rw s at h in
     rw (sym e') (rw (sym f') (rw (sym g') (rw (sym h') refl)))
 
-pub class_read : (address place : ℕ) (kind : Kind) (message first second third fourth owner one other next last : List ℕ)
+pub class_read : (address pointer : ℕ) (kind : Kind) (message first second third fourth owner one other next last : List ℕ)
     → one ≡ codes "Adding k: " → other ≡ codes " " → next ≡ codes "to loader data: " → last ≡ codes " "
     → Some (address, first) ≡ address_after one message → Some second ≡ after other first → Some third ≡ past 32 second
-    → Some (place, fourth) ≡ address_after next third → Some owner ≡ after last fourth → kind ≡ kind_in owner
+    → Some (pointer, fourth) ≡ address_after next third → Some owner ≡ after last fourth → kind ≡ kind_in owner
     → Some (ClassAdded address kind) ≡ class_line message
 unfolding class_line
-class_read address place kind message first second third fourth owner one other next last p q r s e f g h i j =
+class_read address pointer kind message first second third fourth owner one other next last p q r s e f g h i j =
     let e' = rw p at e in
     let f' = rw q at f in
     let h' = rw r at h in

@@ -9,7 +9,7 @@ use Rattle.jvm_log.specs.declared.held.Held.{Held}
 use Rattle.jvm_log.specs.declared.loader.Request.{Request}
 use Rattle.jvm_log.specs.Known.{Known}
 
--- A request of an arena that is known, for words; its line has no place so far.
+-- A request of an arena that is known, for words; its line has no number so far.
 abbrev pub asked : Option ℕ → ℕ → ℕ → Option Request
 asked None arena words = None
 asked (Some owner) arena words = Some (record { arena = arena; words = words; line = None })
@@ -18,7 +18,7 @@ asked (Some owner) arena words = Some (record { arena = arena; words = words; li
 abbrev pub next_number : Held → ℕ
 next_number held = (held.first + length held.entries.items) % 2 ^ 64
 
--- A request that passes the pool has its line's place from then on.
+-- A request that passes the pool has its line's number from then on.
 abbrev pub placed : Held → Request → Option ℕ → Request
 placed held request None = record request { line = Some (next_number held) }
 placed held request (Some line) = request

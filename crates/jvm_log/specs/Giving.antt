@@ -61,9 +61,9 @@ Adds commands old new = map plain new ≡ map plain old ++ commands
 
 -- A command is put where its request waits for it, or at the end; nothing comes where there is none.
 abbrev pub Puts : Option ℕ → Option Command → Held → List Command → Type 0
-Puts place None old new = new ≡ waiting old.entries.items
-Puts place (Some command) old new =
-    (line : Placed) × (held : Held) × (line.command ≡ command) × PutsLine place line old held × (new ≡ waiting held.entries.items)
+Puts number None old new = new ≡ waiting old.entries.items
+Puts number (Some command) old new =
+    (line : Placed) × (held : Held) × (line.command ≡ command) × PutsLine number line old held × (new ≡ waiting held.entries.items)
 
 -- What a thread's request to an arena gives: its line stands where the request passed the pool.
 abbrev pub given : ℕ → ℕ → Space → Known → Option Command

@@ -34,7 +34,7 @@ name_acts_of entries = flat_map name_acts (waiting entries)
 abbrev pub AddsLine : Placed → Held → Held → Type 0
 AddsLine line old new = new.entries.items ≡ old.entries.items ++ Whole line ∷ []
 
--- A line is put at the place of that number while it waits there, and at the end where the place is gone
+-- A line is put at the number of that number while it waits there, and at the end where the number is gone
 -- or waits no more.
 pub record PutsAt (number : ℕ) (line : Placed) (old new : Held) : Type 0 where
   pub waits : old.first ≤ number → slice_get old.entries.items (number - old.first) ≡ Some Asked

@@ -228,17 +228,17 @@ class_line message = do
   address ← address_after (codes "Adding k: ") message
   name ← after (codes " ") address.1
   rest ← past 32 name
-  place ← address_after (codes "to loader data: ") rest
-  owner ← after (codes " ") place.1
+  pointer ← address_after (codes "to loader data: ") rest
+  owner ← after (codes " ") pointer.1
   Some (ClassAdded address.0 (kind_in owner))
 
 -- `unloadloader data: P of ..`.
 unfoldable pub named_line : List ℕ → Option Event
 named_line message = do
   rest ← after (codes "unloadloader data: ") message
-  place ← address_at rest
-  name ← after (codes " of ") place.1
-  Some (LoaderNamed place.0)
+  pointer ← address_at rest
+  name ← after (codes " of ") pointer.1
+  Some (LoaderNamed pointer.0)
 
 -- `aK(bK)->cK(dK)`.
 unfoldable pub change_at : List ℕ → Option (List ℕ)

@@ -37,14 +37,14 @@ pub(crate) fn only(word: &[u8], text: &[u8]) -> Option<()>
 pub(crate) fn past(byte: u8, text: &[u8]) -> Option<&[u8]>
     ensures { option_copied result ≡ past byte text.now }
 {
-    let at = place_of(byte, text)?;
+    let at = index_of(byte, text)?;
     let (_, rest) = text.split_at(at + 1);
     Some(rest)
 }
 
 /// Finds the first such byte.
 #[inline(always)]
-fn place_of(byte: u8, text: &[u8]) -> Option<usize>
+fn index_of(byte: u8, text: &[u8]) -> Option<usize>
     ensures { result ≡ position (λ b. b == byte) text.now }
 {
     memchr(byte, text)

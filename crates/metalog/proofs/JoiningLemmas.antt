@@ -151,7 +151,7 @@ asks_for_same one other (Asks Purge) same = refl
 asks_for_same one other Sync same = refl
 asks_for_same one other Report same = refl
 
--- The line at a place is read, and stands there without its address if its block is freed later.
+-- The line at an index is read, and stands there without its address if its block is freed later.
 turned : (old : List Placed) (at : ℕ) (or after : Placed) → at < length old
     → after ≡ forgot (is_freed_in (drop (suc at) old)) (get_or (take (suc at) old ++ forgotten (drop (suc at) old)) at or)
     → slice_set (take (suc at) old ++ forgotten (drop (suc at) old)) at after ≡ take at old ++ forgotten (drop at old)
@@ -168,7 +168,7 @@ known [] at or loader block had has less was is = absurd (omega (arith, less))
 known (line ∷ old) zero or loader block had has less was is = is ∙ ap (named_then loader block line.command) was
 known (line ∷ old) (suc at) or loader block had has less was is = known old at or loader block had has (omega (arith, less)) was is
 
--- One turn of the loop, from the place `at` to the one before it.
+-- One turn of the loop, from the index `at` to the one before it.
 pub turn : (old lines : List Placed) (at next : ℕ) (read after : Placed) (had has : ℕ → ℕ → Bool) → at ≡ suc next
     → at ≤ length old → lines ≡ take at old ++ forgotten (drop at old)
     → ((loader block : ℕ) → had loader block ≡ is_freed_in (drop at old) loader block) → read ≡ get_or lines next read

@@ -10,11 +10,11 @@ names_more texts birth (number ∷ numbers) zero or less =
     let here : birth ≡ birth + 0 = omega arith in
     append-nil (name_line number (told_of texts birth)) ∙ ap (λ n. name_line number (told_of texts n)) here
 names_more texts birth (number ∷ numbers) (suc at) or less =
-    let place : birth + 1 + at ≡ birth + suc at = omega arith in
+    let next_is : birth + 1 + at ≡ birth + suc at = omega arith in
     ap (λ rest. name_line number (told_of texts birth) ++ rest) (names_more texts (birth + 1) numbers at or (omega (arith, less)))
     ∙ sym (append_assoc (name_line number (told_of texts birth)) (names_text texts (birth + 1) (take at numbers)) _)
     ∙ ap (λ n. (name_line number (told_of texts birth) ++ names_text texts (birth + 1) (take at numbers))
-    ++ name_line (get_or numbers at or) (told_of texts n)) place
+    ++ name_line (get_or numbers at or) (told_of texts n)) next_is
 
 pub names_next : {A : Type 0} (texts : List (ℕ × Vec ℕ A)) (numbers : List ℕ) (at or : ℕ) → at < length numbers
     → names_text texts 0 (take (at + 1) numbers)

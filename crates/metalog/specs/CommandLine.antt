@@ -19,7 +19,7 @@ report_rule choices = record (new_rule (codes "reports")) {
   parser = Some (Names choices);
 }
 
--- Those of the three places.
+-- Those of the three words.
 pub record IsReportRule (rule : Rule) : Type 0 where
   pub choices : Choices
   pub told : map (λ choice. choice.now) choices.now ≡ codes "end" ∷ codes "gc" ∷ codes "none" ∷ []

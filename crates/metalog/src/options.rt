@@ -202,11 +202,11 @@ fn report_option<'a>(alloc: Global) -> Arg<'a>
     ensures rule { IsReportRule (rule_of result) }
     ensures own { result.global ≡ false }
 {
-    let places = ["end", "gc", "none"].as_slice();
+    let choices = ["end", "gc", "none"].as_slice();
     Arg::new(alloc, "reports")
         .long("reports")
         .value_name("R")
-        .value_parser(places)
+        .value_parser(choices)
         .help("Ask for a report at the end, after each collection too, or nowhere [default: end]")
 }
 

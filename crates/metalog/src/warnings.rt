@@ -34,7 +34,7 @@ impl Warnings {
         ensures counted { OnOk result (Counts trouble self.old.told.items self.new.told.items) }
         ensures once { IsKnown trouble self.old.told.items → errors.new ≡ errors.old }
     {
-        if let Some(at) = self.place_of(trouble) {
+        if let Some(at) = self.index_of(trouble) {
             self.told[at].1 = self.told[at].1.saturating_add(1);
             return Ok(());
         }
@@ -45,7 +45,7 @@ impl Warnings {
     }
 
     /// Finds a kind among those that had a warning.
-    fn place_of(&self, trouble: Trouble) -> Option<usize>
+    fn index_of(&self, trouble: Trouble) -> Option<usize>
         ensures inside { IfSome result (λ at. at < length self.now.told.items) }
         ensures found { IfSome result (λ at. (count : ℕ) × (slice_get self.now.told.items at ≡ Some (trouble, count))) }
         ensures none { IfNone result (IsKnown trouble self.now.told.items → ⊥) }

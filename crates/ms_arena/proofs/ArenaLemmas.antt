@@ -18,7 +18,7 @@ use Rattle.ms_base.proofs.entries.LookupLemmas.{named_changed_same, named_change
 use Rattle.ms_base.proofs.events.SeenEntryLemmas.{same_entries}
 use Rattle.ms_base.specs.declared.refusal.Refusal.{Refusal}
 use Rattle.ms_arena.specs.Arena.{ArenaView, IsLive, IsNotLive, LacksWord, WordRefused, WritesWord, live_run}
-use Rattle.ms_arena.specs.Raw.{RawView, Holds, RunIsThere, contents_at, live_in, with_live}
+use Rattle.ms_arena.specs.Raw.{RawArenaView, Holds, RunIsThere, contents_at, live_in, with_live}
 use Rattle.ms_arena.specs.Words.{IsThere, WordsView, StayWords, Writes, value_at}
 use Rattle.ms_arena.proofs.HoldLemmas.{IsClear, clear_of_each}
 use Rattle.ms_arena.proofs.ContentsLemmas.{contents_long, contents_stay}
@@ -55,7 +55,7 @@ runs_live words (run ∷ runs) =
     ∙ ap (λ (l : List (ℕ × ℕ)). run ∷ l) (runs_live words runs)
 
 -- A block is live where it is in the list with its words, and else it is not.
-pub is_live : (raw : RawView) (runs : List (ℕ × ℕ)) (block : Block) → named runs block.start ≡ Some block.words
+pub is_live : (raw : RawArenaView) (runs : List (ℕ × ℕ)) (block : Block) → named runs block.start ≡ Some block.words
     → IsLive (with_live raw (live_in raw.words runs)) block (contents_at raw.words (block.start, block.words))
 is_live raw runs block found = record {
   found = named_live raw.words runs block.start ∙ ap (shown raw.words block.start) found;
@@ -70,7 +70,7 @@ has_words words start n (Some m) contents is long =
     ap (λ (n : ℕ). Some n)
     (sym (contents_long (value_at words) (start, m)) ∙ ap (λ (l : List ℕ). length l) same ∙ sym long)
 
-pub is_not_live : (raw : RawView) (runs : List (ℕ × ℕ)) (block : Block)
+pub is_not_live : (raw : RawArenaView) (runs : List (ℕ × ℕ)) (block : Block)
     → (named runs block.start ≡ Some block.words → false ≡ true)
     → IsNotLive (with_live raw (live_in raw.words runs)) block
 is_not_live raw runs block none = λ contents live.
@@ -79,7 +79,7 @@ is_not_live raw runs block none = λ contents live.
     absurd (cc (e))
 
 -- A run lacks a word, so its block does.
-lacks_word : (raw : RawView) (runs : List (ℕ × ℕ)) (block : Block) (index : ℕ) (refusal : Refusal)
+lacks_word : (raw : RawArenaView) (runs : List (ℕ × ℕ)) (block : Block) (index : ℕ) (refusal : Refusal)
     → LacksWord runs block index refusal
     → WordRefused (with_live raw (live_in raw.words runs)) block index refusal
 lacks_word raw runs block index refusal lacks =
@@ -156,7 +156,7 @@ without_live words (run ∷ runs) start =
     ]
 
 -- The refusal is handed on.
-pub refused_so : {T : Type 0} (raw : RawView) (runs : List (ℕ × ℕ)) (block : Block) (index : ℕ) (now : ArenaView)
+pub refused_so : {T : Type 0} (raw : RawArenaView) (runs : List (ℕ × ℕ)) (block : Block) (index : ℕ) (now : ArenaView)
     (refusal : Refusal) (result : Result T Refusal) → with_live raw (live_in raw.words runs) ≡ now
     → IsErrAnd result (λ told. told ≡ refusal) → LacksWord runs block index refusal
     → IfErr result (λ told. WordRefused now block index told)
@@ -169,7 +169,7 @@ pub record WordIsThere (words : WordsView) (word : ℕ) : Type 0 where
   pub fits : word < 2 ^ 64
   pub there : IsThere words word
 
-pub word_is_there : (raw : RawView) (block : Block) (index : ℕ) (runs : List (ℕ × ℕ)) → Holds raw runs
+pub word_is_there : (raw : RawArenaView) (block : Block) (index : ℕ) (runs : List (ℕ × ℕ)) → Holds raw runs
     → named runs block.start ≡ Some block.words → index < block.words
     → WordIsThere raw.words (block.start + index)
 word_is_there raw block index runs holds found within =
@@ -181,7 +181,7 @@ word_is_there raw block index runs holds found within =
     }
 
 -- It is written.
-pub writes : (old new : RawView) (block : Block) (index value : ℕ) (runs : List (ℕ × ℕ)) → Holds old runs
+pub writes : (old new : RawArenaView) (block : Block) (index value : ℕ) (runs : List (ℕ × ℕ)) → Holds old runs
     → AreNamed runs → named runs block.start ≡ Some block.words → index < block.words
     → Writes old.words (block.start + index) value new.words → new ≡ record old { words = new.words }
     → WritesWord (with_live old (live_in old.words runs)) block index value (with_live new (live_in new.words runs))
@@ -190,7 +190,7 @@ writes old new block index value runs holds rises found within word rest = recor
   live = is_live old runs block found;
   within = omega (arith, within, (is_live old runs block found).words);
   after = ap (λ (live : List (ℕ × List ℕ)). with_live new live) changed
-      ∙ ap (λ (raw : RawView). with_live raw (with_changed (live_in old.words runs) block.start contents)) rest;
+      ∙ ap (λ (raw : RawArenaView). with_live raw (with_changed (live_in old.words runs) block.start contents)) rest;
 }
   where
     run : ℕ × ℕ

@@ -20,7 +20,7 @@ use Rattle.ms_base.specs.Held.{words_of}
 use Rattle.ms_base.specs.Names.{named}
 use Rattle.ms_base.specs.State.{ArenaState}
 use Rattle.ms_base.specs.Good.{IsSound, is_in_use}
-use Rattle.ms_base.specs.Place.{current, current_top, last_place, tops_with, with_top, with_chunk, with_taken}
+use Rattle.ms_base.specs.Place.{current, current_top, last_index, tops_with, with_top, with_chunk, with_taken}
 use Rattle.ms_base.specs.Place.{with_used, retired, retired_chunk}
 use Rattle.ms_base.proofs.granules.FrontLemmas.{has_front_for}
 use Rattle.ms_base.proofs.runs.ApartLemmas.{apart-rest_of, list_all-rest_of}
@@ -93,34 +93,34 @@ whole_is_sound space arena live are sound = record {
 }
 
 -- The words from a top on, once the top has risen over them.
-pub above_top : (space : Space) (arena : ArenaState) (live : List (ℕ × ℕ)) (place n top : ℕ) (chunk : Chunk)
+pub above_top : (space : Space) (arena : ArenaState) (live : List (ℕ × ℕ)) (index n top : ℕ) (chunk : Chunk)
     → AreChunks space arena.chunks
-    → slice_get arena.chunks place ≡ Some chunk → top ≡ slice_index arena.tops place + n → top ≤ chunk.front → 2 ≤ n
+    → slice_get arena.chunks index ≡ Some chunk → top ≡ slice_index arena.tops index + n → top ≤ chunk.front → 2 ≤ n
     → IsSound arena live
-    → Fits (record arena { tops = tops_with arena.tops place top }) live (chunk.start + slice_index arena.tops place, n)
-above_top space arena live place n top chunk are found is within long sound = record {
+    → Fits (record arena { tops = tops_with arena.tops index top }) live (chunk.start + slice_index arena.tops index, n)
+above_top space arena live index n top chunk are found is within long sound = record {
   clear = fits.clear;
   long = fits.long;
-  used = sym (whole_use (chunk.start + slice_index arena.tops place, n) arena.chunks (tops_with arena.tops place top))
+  used = sym (whole_use (chunk.start + slice_index arena.tops index, n) arena.chunks (tops_with arena.tops index top))
       ∙ fits.used;
 }
   where
     front : chunk.front ≤ size_of chunk.level
-    front = (word_at arena.chunks place chunk (recursion_from_All HasWords arena.chunks are.fronts) found).1
+    front = (word_at arena.chunks index chunk (recursion_from_All HasWords arena.chunks are.fronts) found).1
       where
-        word_at : (chunks : List Chunk) (place : ℕ) (chunk : Chunk) → AllByRecursion HasWords chunks
-            → slice_get chunks place ≡ Some chunk → HasWords chunk
-        word_at [] place chunk all found = absurd (cc)
+        word_at : (chunks : List Chunk) (index : ℕ) (chunk : Chunk) → AllByRecursion HasWords chunks
+            → slice_get chunks index ≡ Some chunk → HasWords chunk
+        word_at [] index chunk all found = absurd (cc)
         word_at (c ∷ chunks) zero chunk all found = let its : c ≡ chunk = cc in subst HasWords its all.0
-        word_at (c ∷ chunks) (suc place) chunk all found = word_at chunks place chunk all.1 found
+        word_at (c ∷ chunks) (suc index) chunk all found = word_at chunks index chunk all.1 found
 
-    fits : Fits (record (wholes arena) { tops = tops_with arena.tops place top }) live
-        (chunk.start + slice_index arena.tops place, n)
+    fits : Fits (record (wholes arena) { tops = tops_with arena.tops index top }) live
+        (chunk.start + slice_index arena.tops index, n)
     fits =
-        above_fits Never (wholes arena) live place n top (whole chunk)
+        above_fits Never (wholes arena) live index n top (whole chunk)
         (All-from_recursion (HasFront Never) (map whole arena.chunks) (whole_fronts arena.chunks))
         (ap are_apart (whole_words arena.chunks) ∙ are.apart)
-        (slice_get-map whole arena.chunks place ∙ ap (option_map whole) found) is (omega (arith, within, front))
+        (slice_get-map whole arena.chunks index ∙ ap (option_map whole) found) is (omega (arith, within, front))
         long
         (whole_is_sound space arena live are sound)
 
@@ -132,17 +132,17 @@ pub fits_from : (arena : ArenaState) (live : List (ℕ × ℕ)) (run : ℕ × �
 fits_from arena live run awaits = record { clear = awaits.clear; used = awaits.used; long = awaits.long }
 
 -- A block at a top.
-pub awaits_at_top : (space : Space) (arena : ArenaState) (live : List (ℕ × ℕ)) (place n top start : ℕ) (chunk : Chunk)
+pub awaits_at_top : (space : Space) (arena : ArenaState) (live : List (ℕ × ℕ)) (index n top start : ℕ) (chunk : Chunk)
     → AreChunks space arena.chunks
-    → slice_get arena.chunks place ≡ Some chunk → top ≡ slice_index arena.tops place + n → top ≤ chunk.front → 2 ≤ n
-    → start ≡ chunk.start + slice_index arena.tops place → IsSound arena live
-    → Awaits (record arena { tops = tops_with arena.tops place top }) live (start, n)
-awaits_at_top space arena live place n top start chunk are found is within long starts sound =
-    let raised : ArenaState = record arena { tops = tops_with arena.tops place top } in
+    → slice_get arena.chunks index ≡ Some chunk → top ≡ slice_index arena.tops index + n → top ≤ chunk.front → 2 ≤ n
+    → start ≡ chunk.start + slice_index arena.tops index → IsSound arena live
+    → Awaits (record arena { tops = tops_with arena.tops index top }) live (start, n)
+awaits_at_top space arena live index n top start chunk are found is within long starts sound =
+    let raised : ArenaState = record arena { tops = tops_with arena.tops index top } in
     subst (λ (s : ℕ). Awaits raised live (s, n)) (sym starts)
-    (awaits_from raised live (chunk.start + slice_index arena.tops place, n)
-    (above_top space arena live place n top chunk are found is within long sound)
-    (raised_is_sound arena live place top chunk found (omega arith) within sound))
+    (awaits_from raised live (chunk.start + slice_index arena.tops index, n)
+    (above_top space arena live index n top chunk are found is within long sound)
+    (raised_is_sound arena live index top chunk found (omega arith) within sound))
 
 -- A block at the start of a free block.
 pub awaits_in_free : (arena : ArenaState) (live : List (ℕ × ℕ)) (run : ℕ × ℕ) (n : ℕ)
@@ -160,8 +160,8 @@ pub rest_awaits : (space : Space) (arena : ArenaState) (live : List (ℕ × ℕ)
     → 2 ≤ chunk.front - current_top arena → IsSound arena live
     → Fits (with_top arena chunk.front) live (chunk.start + current_top arena, chunk.front - current_top arena)
 rest_awaits space arena live chunk are found some sound =
-    let low = top_within arena.chunks arena.tops (last_place arena) chunk found sound.tops in
-    above_top space arena live (last_place arena) (chunk.front - current_top arena) chunk.front chunk are found
+    let low = top_within arena.chunks arena.tops (last_index arena) chunk found sound.tops in
+    above_top space arena live (last_index arena) (chunk.front - current_top arena) chunk.front chunk are found
     (omega (arith, low)) (omega arith) some sound
 
 retired_one : (space : Space) (arena : ArenaState) (live : List (ℕ × ℕ)) (o : Option Chunk)
@@ -169,10 +169,10 @@ retired_one : (space : Space) (arena : ArenaState) (live : List (ℕ × ℕ)) (o
     → IsSound arena live → IsSound (retired_chunk arena o) live
 retired_one space arena live None are found sound = sound
 retired_one space arena live (Some chunk) are found sound =
-    let low = top_within arena.chunks arena.tops (last_place arena) chunk found sound.tops in
+    let low = top_within arena.chunks arena.tops (last_index arena) chunk found sound.tops in
     rest_is_sound (with_top arena chunk.front) live (chunk.start + current_top arena) (chunk.front - current_top arena)
     (λ some. rest_awaits space arena live chunk are found some sound)
-    (raised_is_sound arena live (last_place arena) chunk.front chunk found low (omega arith) sound)
+    (raised_is_sound arena live (last_index arena) chunk.front chunk found low (omega arith) sound)
 
 retired_chunks : (arena : ArenaState) (o : Option Chunk) → (retired_chunk arena o).chunks ≡ arena.chunks
 retired_chunks arena None = refl
@@ -202,11 +202,11 @@ chunk_is_sound arena live chunk sound = record {
     same : zip (arena.chunks ++ chunk ∷ []) arena.tops ≡ zip arena.chunks arena.tops
     same = no_top_more arena.chunks arena.tops chunk sound.few
 
-last_of : {X : Type 0} (xs : List X) (x : X) (place : ℕ) → place ≡ length xs → slice_get (xs ++ x ∷ []) place ≡ Some x
+last_of : {X : Type 0} (xs : List X) (x : X) (index : ℕ) → index ≡ length xs → slice_get (xs ++ x ∷ []) index ≡ Some x
 last_of [] x zero is = refl
-last_of [] x (suc place) is = absurd (omega arith)
+last_of [] x (suc index) is = absurd (omega arith)
 last_of (y ∷ xs) x zero is = absurd (omega arith)
-last_of (y ∷ xs) x (suc place) is = last_of xs x place (omega arith)
+last_of (y ∷ xs) x (suc index) is = last_of xs x index (omega arith)
 
 -- A block at the start of a chunk that was taken.
 pub awaits_in_taken : (space : Space) (arena : ArenaState) (live : List (ℕ × ℕ)) (chunk : Chunk) (n : ℕ)
@@ -214,9 +214,9 @@ pub awaits_in_taken : (space : Space) (arena : ArenaState) (live : List (ℕ × 
     → AreChunks space (arena.chunks ++ chunk ∷ []) → 2 ≤ n → n ≤ chunk.front → IsSound arena live
     → Awaits (with_taken arena chunk n) live (chunk.start, n)
 awaits_in_taken space arena live chunk n are more long within sound =
-    awaits_at_top space (with_chunk former chunk) live (last_place (with_chunk former chunk)) n n chunk.start chunk
+    awaits_at_top space (with_chunk former chunk) live (last_index (with_chunk former chunk)) n n chunk.start chunk
     (subst (λ (chunks : List Chunk). AreChunks space (chunks ++ chunk ∷ [])) (sym same) more)
-    (last_of former.chunks chunk (last_place (with_chunk former chunk)) last)
+    (last_of former.chunks chunk (last_index (with_chunk former chunk)) last)
     (omega (arith, none)) within long (omega (arith, none)) (chunk_is_sound former live chunk still)
   where
     former : ArenaState
@@ -228,20 +228,20 @@ awaits_in_taken space arena live chunk n are more long within sound =
     still : IsSound former live
     still = retired_one space arena live (current arena) are refl sound
 
-    last : last_place (with_chunk former chunk) ≡ length former.chunks
+    last : last_index (with_chunk former chunk) ≡ length former.chunks
     last = omega (arith, length-append former.chunks (chunk ∷ []))
 
-    none : slice_index former.tops (last_place (with_chunk former chunk)) ≡ 0
-    none = get_or_past former.tops (last_place (with_chunk former chunk)) 0 (omega (arith, last, still.few))
+    none : slice_index former.tops (last_index (with_chunk former chunk)) ≡ 0
+    none = get_or_past former.tops (last_index (with_chunk former chunk)) 0 (omega (arith, last, still.few))
 
 -- A block at the top of a chunk that grew.
-set_there : {X : Type 0} (xs : List X) (place other : ℕ) (x y : X) → slice_get xs place ≡ Some x → other ≡ place
-    → slice_get (slice_set xs place y) other ≡ Some y
-set_there [] place other x y found is = absurd (cc)
+set_there : {X : Type 0} (xs : List X) (index other : ℕ) (x y : X) → slice_get xs index ≡ Some x → other ≡ index
+    → slice_get (slice_set xs index y) other ≡ Some y
+set_there [] index other x y found is = absurd (cc)
 set_there (z ∷ xs) zero zero x y found is = refl
 set_there (z ∷ xs) zero (suc other) x y found is = absurd (omega arith)
-set_there (z ∷ xs) (suc place) zero x y found is = absurd (omega arith)
-set_there (z ∷ xs) (suc place) (suc other) x y found is = set_there xs place other x y found (omega arith)
+set_there (z ∷ xs) (suc index) zero x y found is = absurd (omega arith)
+set_there (z ∷ xs) (suc index) (suc other) x y found is = set_there xs index other x y found (omega arith)
 
 pub awaits_in_grown : (space : Space) (arena : ArenaState) (live : List (ℕ × ℕ)) (was is : Chunk) (n total start : ℕ)
     → AreChunks space (with_current arena is).chunks
@@ -250,15 +250,15 @@ pub awaits_in_grown : (space : Space) (arena : ArenaState) (live : List (ℕ × 
     → start ≡ was.start + current_top arena → IsSound arena live
     → Awaits (with_top (with_current arena is) total) live (start, n)
 awaits_in_grown space arena live was is n total start are found same higher within sum long starts sound =
-    awaits_at_top space (with_current arena is) live (last_place (with_current arena is)) n total start is are
-    (set_there arena.chunks (last_place arena) (last_place (with_current arena is)) was is found last)
-    (sum ∙ ap (λ (place : ℕ). slice_index arena.tops place + n) (sym last)) within long
+    awaits_at_top space (with_current arena is) live (last_index (with_current arena is)) n total start is are
+    (set_there arena.chunks (last_index arena) (last_index (with_current arena is)) was is found last)
+    (sum ∙ ap (λ (index : ℕ). slice_index arena.tops index + n) (sym last)) within long
     (starts ∙ ap (λ (s : ℕ). s + current_top arena) (sym same)
-    ∙ ap (λ (place : ℕ). is.start + slice_index arena.tops place) (sym last))
-    (grown_is_sound arena live (last_place arena) was is found same higher sound)
+    ∙ ap (λ (index : ℕ). is.start + slice_index arena.tops index) (sym last))
+    (grown_is_sound arena live (last_index arena) was is found same higher sound)
   where
-    last : last_place (with_current arena is) ≡ last_place arena
-    last = omega (arith, length-set arena.chunks (last_place arena) is)
+    last : last_index (with_current arena is) ≡ last_index arena
+    last = omega (arith, length-set arena.chunks (last_index arena) is)
 
 -- With no live block a sound arena is sound too, and what awaits a block does.
 pub sound_alone : (arena : ArenaState) (live : List (ℕ × ℕ)) → IsSound arena live → IsSound arena []

@@ -12,10 +12,10 @@ use Rattle.ms_base.specs.Names.{named, with_new}
 use Rattle.ms_base.specs.State.{ArenaState}
 use Rattle.ms_base.specs.Good.{IsSound, is_in_use}
 use Rattle.ms_base.specs.Interval.{lies_in}
-use Rattle.ms_base.specs.Place.{current, current_top, last_place, tops_with, with_top}
+use Rattle.ms_base.specs.Place.{current, current_top, last_index, tops_with, with_top}
 use Rattle.ms_base.specs.Place.{best_fit, placed, placed_in, place_at_top}
 use Rattle.ms_base.proofs.arena.KeptLemmas.{sound_with_kept}
-use Rattle.ms_base.proofs.arena.RaisedLemmas.{top_within, place_within}
+use Rattle.ms_base.proofs.arena.RaisedLemmas.{top_within, index_within}
 use Rattle.ms_blocks.specs.FreeBlocks.{MayBeKept}
 use Rattle.ms_pool.specs.Account.{AreChunks}
 use Rattle.ms_arena.specs.Kept.{KeptView}
@@ -33,9 +33,9 @@ pub current_bounded : (space : Space) (state : ArenaState) (counted top : ℕ) (
     → AreBooks space state counted
     → current state ≡ Some chunk → top ≡ current_top state → IsCurrent chunk top
 current_bounded space state counted top chunk books found is =
-    let bounds = bounded_at space state.chunks (last_place state) chunk books.chunks found in
+    let bounds = bounded_at space state.chunks (last_index state) chunk books.chunks found in
     record {
-      within = omega (arith, is, top_within state.chunks state.tops (last_place state) chunk found books.sound.tops);
+      within = omega (arith, is, top_within state.chunks state.tops (last_index state) chunk found books.sound.tops);
       front = bounds.front;
       ends = bounds.ends;
     }
@@ -48,7 +48,7 @@ current_known space state counted last top chunk books is found read =
     current_bounded space state counted top chunk books
     (subst (λ (p : ℕ). slice_get state.chunks p ≡ Some chunk) is found)
     (read ∙ get_or_default_zero state.tops last top
-    (omega (arith, books.each, place_within state.chunks last chunk found)) ∙ ap (slice_index state.tops) is)
+    (omega (arith, books.each, index_within state.chunks last chunk found)) ∙ ap (slice_index state.tops) is)
 
 -- A freed block's words may be kept, and then are.
 pub may_be_kept : (space : Space) (state : ArenaState) (counted : ℕ) (run : ℕ × ℕ) → AreBooks space state counted
@@ -89,10 +89,10 @@ awaits_block space old new start n sound chunks each =
 pub free_awaits : (space : Space) (state : ArenaState) (counted n start : ℕ) (kept : List (ℕ × ℕ))
     → AreBooks space state counted
     → PlacesFree state.kept n start kept → 2 ≤ n → AwaitsBlock state (record state { kept = kept }) start n
-free_awaits space state counted n start kept books places long =
+free_awaits space state counted n start kept books placing long =
     awaits_block space state (record state { kept = kept }) start n books.sound books.chunks (λ live sound.
-    subst (λ (l : List (ℕ × ℕ)). Awaits (record state { kept = l }) live (start, n)) (sym places.after)
-    (awaits_in_free state live (start, places.words) n places.has long places.enough sound))
+    subst (λ (l : List (ℕ × ℕ)). Awaits (record state { kept = l }) live (start, n)) (sym placing.after)
+    (awaits_in_free state live (start, placing.words) n placing.has long placing.enough sound))
 
 -- A free block's words end as low as those of a block that is placed in it.
 pub kept_below : (space : Space) (state : ArenaState) (counted n : ℕ) → AreBooks space state counted → 2 ≤ n
@@ -104,63 +104,63 @@ kept_below space state counted n books long start words has enough =
 pub books_placed_free : (space : Space) (state : ArenaState) (counted n start : ℕ) (kept : List (ℕ × ℕ))
     → AreBooks space state counted
     → PlacesFree state.kept n start kept → 2 ≤ n → AreBooks space (record state { kept = kept }) counted
-books_placed_free space state counted n start kept books places long =
+books_placed_free space state counted n start kept books placing long =
     record {
       chunks = books.chunks;
       each = books.each;
       used = books.used;
-      sound = ((free_awaits space state counted n start kept books places long).each [] books.sound).sound;
+      sound = ((free_awaits space state counted n start kept books placing long).each [] books.sound).sound;
     }
 
 -- A top of each chunk still.
-pub length_raised : (tops : List ℕ) (place top : ℕ) → place < length tops → length (tops_with tops place top) ≡ length tops
-length_raised [] place top h = absurd (omega arith)
+pub length_raised : (tops : List ℕ) (index top : ℕ) → index < length tops → length (tops_with tops index top) ≡ length tops
+length_raised [] index top h = absurd (omega arith)
 length_raised (t ∷ tops) zero top h = refl
-length_raised (t ∷ tops) (suc place) top h = ap (λ (n : ℕ). suc n) (length_raised tops place top (omega arith))
+length_raised (t ∷ tops) (suc index) top h = ap (λ (n : ℕ). suc n) (length_raised tops index top (omega arith))
 
-pub tops_set : (tops : List ℕ) (place top : ℕ) → place < length tops
-    → slice_set tops place top ≡ tops_with tops place top
-tops_set [] place top h = absurd (omega arith)
+pub tops_set : (tops : List ℕ) (index top : ℕ) → index < length tops
+    → slice_set tops index top ≡ tops_with tops index top
+tops_set [] index top h = absurd (omega arith)
 tops_set (t ∷ tops) zero top h = refl
-tops_set (t ∷ tops) (suc place) top h = ap (λ (l : List ℕ). t ∷ l) (tops_set tops place top (omega arith))
+tops_set (t ∷ tops) (suc index) top h = ap (λ (l : List ℕ). t ∷ l) (tops_set tops index top (omega arith))
 
 -- A block at the current chunk's top.
-pub top_awaits : (space : Space) (state : ArenaState) (counted n place : ℕ) (chunk : Chunk) (tops : List ℕ)
+pub top_awaits : (space : Space) (state : ArenaState) (counted n index : ℕ) (chunk : Chunk) (tops : List ℕ)
     → AreBooks space state counted
-    → current state ≡ Some chunk → current_top state + n ≤ chunk.front → 2 ≤ n → place ≡ last_place state
-    → tops ≡ tops_with state.tops place (current_top state + n)
+    → current state ≡ Some chunk → current_top state + n ≤ chunk.front → 2 ≤ n → index ≡ last_index state
+    → tops ≡ tops_with state.tops index (current_top state + n)
     → AwaitsBlock state (record state { tops = tops }) (chunk.start + current_top state) n
-top_awaits space state counted n place chunk tops books found within long last is =
+top_awaits space state counted n index chunk tops books found within long last is =
     awaits_block space state (record state { tops = tops }) start n books.sound books.chunks (λ live sound.
     subst (λ (l : List ℕ). Awaits (record state { tops = l }) live (start, n))
     (sym (is ∙ ap (λ (p : ℕ). tops_with state.tops p (current_top state + n)) last))
-    (awaits_at_top space state live (last_place state) n (current_top state + n) start chunk
+    (awaits_at_top space state live (last_index state) n (current_top state + n) start chunk
     books.chunks found refl within long refl sound))
   where
     start : ℕ
     start = chunk.start + current_top state
 
-pub books_placed_at_top : (space : Space) (state : ArenaState) (counted n place now : ℕ) (chunk : Chunk) (tops : List ℕ)
+pub books_placed_at_top : (space : Space) (state : ArenaState) (counted n index now : ℕ) (chunk : Chunk) (tops : List ℕ)
     → AreBooks space state counted
-    → current state ≡ Some chunk → current_top state + n ≤ chunk.front → 2 ≤ n → place ≡ last_place state
-    → tops ≡ tops_with state.tops place (current_top state + n) → now ≡ sum tops
+    → current state ≡ Some chunk → current_top state + n ≤ chunk.front → 2 ≤ n → index ≡ last_index state
+    → tops ≡ tops_with state.tops index (current_top state + n) → now ≡ sum tops
     → AreBooks space (record state { tops = tops }) now
-books_placed_at_top space state counted n place now chunk tops books found within long last is summed = record {
+books_placed_at_top space state counted n index now chunk tops books found within long last is summed = record {
   chunks = books.chunks;
   each = ap length is
-      ∙ length_raised state.tops place (current_top state + n)
-      (omega (arith, place_within state.chunks (last_place state) chunk found, last, books.each)) ∙ books.each;
+      ∙ length_raised state.tops index (current_top state + n)
+      (omega (arith, index_within state.chunks (last_index state) chunk found, last, books.each)) ∙ books.each;
   used = summed;
-  sound = ((top_awaits space state counted n place chunk tops books found within long last is).each [] books.sound).sound;
+  sound = ((top_awaits space state counted n index chunk tops books found within long last is).each [] books.sound).sound;
 }
 
 -- So it is placed there where no free block fits.
-pub placed_at_top : (state : ArenaState) (n place top : ℕ) (chunk : Chunk) (tops : List ℕ) (kept : List (ℕ × ℕ))
+pub placed_at_top : (state : ArenaState) (n index top : ℕ) (chunk : Chunk) (tops : List ℕ) (kept : List (ℕ × ℕ))
     → best_fit state.kept n ≡ None → current state ≡ Some chunk → top ≡ current_top state
-    → current_top state + n ≤ chunk.front → place ≡ last_place state → tops ≡ tops_with state.tops place (top + n)
+    → current_top state + n ≤ chunk.front → index ≡ last_index state → tops ≡ tops_with state.tops index (top + n)
     → kept ≡ state.kept
     → placed state n ≡ Some (chunk.start + top, record { chunks = state.chunks; tops = tops; kept = kept })
-placed_at_top state n place top chunk tops kept none found top_is within last is same =
+placed_at_top state n index top chunk tops kept none found top_is within last is same =
     ap (λ (run : Option (ℕ × ℕ)). placed_in state run n) none
     ∙ ap (λ (one : Option Chunk). place_at_top state one n) found
     ∙ ap (λ (fits : Bool). if fits then Some (chunk.start + current_top state, after) else None)
@@ -175,7 +175,7 @@ placed_at_top state n place top chunk tops kept none found top_is within last is
     same_state = λ i. record {
       chunks = state.chunks;
       tops = (is ∙ ap (λ (p : ℕ). tops_with state.tops p (top + n)) last
-          ∙ ap (λ (t : ℕ). tops_with state.tops (last_place state) (t + n)) top_is) i;
+          ∙ ap (λ (t : ℕ). tops_with state.tops (last_index state) (t + n)) top_is) i;
       kept = same i;
     }
 

@@ -10,9 +10,9 @@ use Rattle.ms_base.specs.declared.span.Chunk.{Chunk}
 use Rattle.ms_base.specs.declared.span.Span.{Span}
 use Rattle.ms_base.specs.Level.{size_of}
 use Rattle.ms_base.specs.State.{ArenaState}
-use Rattle.ms_base.specs.Place.{current, current_top, last_place, tops_with, with_rest, with_top, with_chunk}
+use Rattle.ms_base.specs.Place.{current, current_top, last_index, tops_with, with_rest, with_top, with_chunk}
 use Rattle.ms_base.specs.Place.{with_taken, retired, retired_chunk}
-use Rattle.ms_base.proofs.arena.RaisedLemmas.{place_within}
+use Rattle.ms_base.proofs.arena.RaisedLemmas.{index_within}
 use Rattle.ms_base.proofs.arena.TopLemmas.{tops_pushed}
 use Rattle.ms_base.proofs.granules.FrontLemmas.{front_reaches}
 use Rattle.ms_base.proofs.free.HalvesLemmas.{size_falls}
@@ -44,9 +44,9 @@ may_retire space state counted None books was = tt
 may_retire space state counted (Some at) books was =
     let its = sym was.found in
     let top = was.top in
-    let bounds = bounded_at space state.chunks (last_place state) at.0 books.chunks its in
+    let bounds = bounded_at space state.chunks (last_index state) at.0 books.chunks its in
     record {
-      last = omega (arith, books.each, place_within state.chunks (last_place state) at.0 its);
+      last = omega (arith, books.each, index_within state.chunks (last_index state) at.0 its);
       top_is = ap (λ (n : ℕ). slice_index state.tops (n - 1)) books.each ∙ sym top;
       bounds = current_bounded space state counted at.1 at.0 books its top;
       size = bounds.size;
@@ -74,7 +74,7 @@ retired_is state (Some at) each found top =
     let s : ArenaState =
     record {
       chunks = state.chunks;
-      tops = tops_with state.tops (last_place state) at.0.front;
+      tops = tops_with state.tops (last_index state) at.0.front;
       kept = with_rest state.kept (at.0.start + t) (at.0.front - t);
     } in s) top
     ∙ ap (retired_chunk state) found
@@ -141,8 +141,8 @@ taken_books policy space state counted wanted most n former old span new tops to
         keeps
         ∙ retired_is state former books.each was_current.found was_current.top
 
-    place : last_place (record { chunks = state.chunks ++ chunk ∷ []; tops = tops; kept = kept }) ≡ length tops
-    place = omega (
+    index : last_index (record { chunks = state.chunks ++ chunk ∷ []; tops = tops; kept = kept }) ≡ length tops
+    index = omega (
       arith,
       length-append state.chunks (chunk ∷ []),
       ap length retires,
@@ -151,8 +151,8 @@ taken_books policy space state counted wanted most n former old span new tops to
     )
 
     pushed_is : tops'
-        ≡ tops_with tops (last_place (record { chunks = state.chunks ++ chunk ∷ []; tops = tops; kept = kept })) n
-    pushed_is = pushed ∙ sym (tops_pushed tops n) ∙ ap (λ (p : ℕ). tops_with tops p n) (sym place)
+        ≡ tops_with tops (last_index (record { chunks = state.chunks ++ chunk ∷ []; tops = tops; kept = kept })) n
+    pushed_is = pushed ∙ sym (tops_pushed tops n) ∙ ap (λ (p : ℕ). tops_with tops p n) (sym index)
 
     same : ◌≡◌ {A = ArenaState} (record { chunks = new.chunks; tops = tops'; kept = kept }) (with_taken state chunk n)
     same = ap (λ (l : List Chunk). let s : ArenaState = record { chunks = l; tops = tops'; kept = kept } in s)

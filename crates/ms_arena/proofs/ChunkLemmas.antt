@@ -1,4 +1,4 @@
--- What an account knows of its chunks, at one place: the chunk's bounds, that no other starts
+-- What an account knows of its chunks, at one index: the chunk's bounds, that no other starts
 -- there, how far it reaches once it grew; and a bound on the words in use.
 use Rattle.std.proofs.Common.{◌≡◌, ◌≤◌, ◌<◌, ◌+◌, ◌-◌, ◌*◌, ◌/◌, ◌^◌, ℕ, zero, suc, Bool, true, false, not, Some, List}
 use Rattle.std.proofs.Common.{[], ◌∷◌, length, map, refl, sym, ap, ◌∙◌, subst, arith, inl, inr, sum, take}
@@ -26,12 +26,12 @@ use Rattle.ms_base.proofs.granules.FrontLemmas.{front_reaches}
 use Rattle.ms_pool.specs.Account.{AreChunks, has_chunk_at}
 use Rattle.ms_pool.specs.Lending.{MayBeParent, chunk_at, span_of, parent_of, reaching}
 
--- What holds of all holds of the one at a place.
-all_at : {X : Type 0} (P : X → Type 0) (xs : List X) (place : ℕ) (x : X) → AllByRecursion P xs
-    → slice_get xs place ≡ Some x → P x
-all_at P [] place x all found = absurd (cc)
+-- What holds of all holds of the one at an index.
+all_at : {X : Type 0} (P : X → Type 0) (xs : List X) (index : ℕ) (x : X) → AllByRecursion P xs
+    → slice_get xs index ≡ Some x → P x
+all_at P [] index x all found = absurd (cc)
 all_at {X} P (y ∷ xs) zero x all found = let its : y ≡ x = cc in subst P its all.0
-all_at P (y ∷ xs) (suc place) x all found = all_at P xs place x all.1 found
+all_at P (y ∷ xs) (suc index) x all found = all_at P xs index x all.1 found
 
 -- The bounds of a chunk.
 pub record IsBounded (chunk : Chunk) : Type 0 where
@@ -60,77 +60,77 @@ size_small level = size_falls 0 level (omega arith)
 below : (start size : ℕ) → start / 1048576 < 80 → size ≤ 2 ^ 19 → start + size < 2 ^ 27
 below start size h k = omega arith
 
-pub bounded_at : (space : Space) (chunks : List Chunk) (place : ℕ) (chunk : Chunk) → AreChunks space chunks
-    → slice_get chunks place ≡ Some chunk → IsBounded chunk
-bounded_at space chunks place chunk are found = record {
-  level = (all_at IsPlaced chunks place chunk (recursion_from_All IsPlaced chunks are.parts) found).0;
+pub bounded_at : (space : Space) (chunks : List Chunk) (index : ℕ) (chunk : Chunk) → AreChunks space chunks
+    → slice_get chunks index ≡ Some chunk → IsBounded chunk
+bounded_at space chunks index chunk are found = record {
+  level = (all_at IsPlaced chunks index chunk (recursion_from_All IsPlaced chunks are.parts) found).0;
   some = words.0;
   front = words.1;
   size = size_small chunk.level;
   ends = below chunk.start (size_of chunk.level)
       (slot_below space (slot_of chunk.start)
-      (all_at (IsInside space) chunks place chunk (recursion_from_All (IsInside space) chunks are.inside) found))
+      (all_at (IsInside space) chunks index chunk (recursion_from_All (IsInside space) chunks are.inside) found))
       (size_small chunk.level);
 }
   where
     words : HasWords chunk
-    words = all_at HasWords chunks place chunk (recursion_from_All HasWords chunks are.fronts) found
+    words = all_at HasWords chunks index chunk (recursion_from_All HasWords chunks are.fronts) found
 
 not-le : (a b : ℕ) → nat_le a b ≡ false → b < a
 not-le a b e = grind (arith, nat_tests)
 
--- Two chunks that start at one word stand at one place.
+-- Two chunks that start at one word stand at one index.
 meets_itself : (a m n : ℕ) → 1 ≤ m → 1 ≤ n → meet a m a n ≡ true
 meets_itself a m n h k = grind (arith, nat_tests)
 
-meets_at : (c : Chunk) (chunks : List Chunk) (place : ℕ) (chunk : Chunk) → slice_get chunks place ≡ Some chunk
+meets_at : (c : Chunk) (chunks : List Chunk) (index : ℕ) (chunk : Chunk) → slice_get chunks index ≡ Some chunk
     → chunk.start ≡ c.start
     → meets_any (words_of c) (map words_of chunks) ≡ true
-meets_at c [] place chunk found same = absurd (cc)
+meets_at c [] index chunk found same = absurd (cc)
 meets_at c (d ∷ chunks) zero chunk found same =
     let its : d.start ≡ c.start = ap (λ (x : Chunk). x.start) (let e : d ≡ chunk = cc in e) ∙ same in
     or_left (meet c.start (size_of c.level) d.start (size_of d.level)) (meets_any (words_of c) (map words_of chunks))
     (rw its (meets_itself c.start (size_of c.level) (size_of d.level) (omega (arith, pow_pos (19 - c.level)))
     (omega (arith, pow_pos (19 - d.level)))))
-meets_at c (d ∷ chunks) (suc place) chunk found same =
+meets_at c (d ∷ chunks) (suc index) chunk found same =
     or_right (meet c.start (size_of c.level) d.start (size_of d.level)) (meets_any (words_of c) (map words_of chunks))
-    (meets_at c chunks place chunk found same)
+    (meets_at c chunks index chunk found same)
 
-pub one_place : (chunks : List Chunk) (i j : ℕ) (c d : Chunk) → are_apart (map words_of chunks) ≡ true
+pub one_index : (chunks : List Chunk) (i j : ℕ) (c d : Chunk) → are_apart (map words_of chunks) ≡ true
     → slice_get chunks i ≡ Some c
     → slice_get chunks j ≡ Some d → c.start ≡ d.start → i ≡ j
-one_place [] i j c d apart here there same = absurd (cc)
-one_place (x ∷ chunks) zero zero c d apart here there same = refl
-one_place (x ∷ chunks) zero (suc j) c d apart here there same =
+one_index [] i j c d apart here there same = absurd (cc)
+one_index (x ∷ chunks) zero zero c d apart here there same = refl
+one_index (x ∷ chunks) zero (suc j) c d apart here there same =
     let its : x ≡ c = cc in
     let meets = meets_at x chunks j d there (sym same ∙ ap (λ (y : Chunk). y.start) (sym its)) in
     let none =
     not-true (meets_any (words_of x) (map words_of chunks))
     (and_parts (not (meets_any (words_of x) (map words_of chunks))) (are_apart (map words_of chunks)) apart).0 in
     absurd (cc (meets, none))
-one_place (x ∷ chunks) (suc i) zero c d apart here there same =
+one_index (x ∷ chunks) (suc i) zero c d apart here there same =
     let its : x ≡ d = cc in
     let meets = meets_at x chunks i c here (same ∙ ap (λ (y : Chunk). y.start) (sym its)) in
     let none =
     not-true (meets_any (words_of x) (map words_of chunks))
     (and_parts (not (meets_any (words_of x) (map words_of chunks))) (are_apart (map words_of chunks)) apart).0 in
     absurd (cc (meets, none))
-one_place (x ∷ chunks) (suc i) (suc j) c d apart here there same =
+one_index (x ∷ chunks) (suc i) (suc j) c d apart here there same =
     ap (λ (n : ℕ). suc n)
-    (one_place chunks i j c d
+    (one_index chunks i j c d
     (and_parts (not (meets_any (words_of x) (map words_of chunks))) (are_apart (map words_of chunks)) apart).1 here
     there same)
 
--- Where a chunk is current, there is a last place.
+-- Where a chunk is current, there is a last index.
 pub last_there : (chunks : List Chunk) (chunk : Chunk) → slice_get chunks (length chunks - 1) ≡ Some chunk
     → 0 < length chunks
 last_there [] chunk found = absurd (cc)
 last_there (first ∷ more) chunk found = omega arith
 
 -- The account has a chunk that starts where one of its chunks does.
-pub has_its_start : (chunks : List Chunk) (place : ℕ) (chunk : Chunk) → slice_get chunks place ≡ Some chunk
+pub has_its_start : (chunks : List Chunk) (index : ℕ) (chunk : Chunk) → slice_get chunks index ≡ Some chunk
     → has_chunk_at chunks chunk.start ≡ true
-has_its_start [] place chunk found = absurd (cc)
+has_its_start [] index chunk found = absurd (cc)
 has_its_start (c ∷ chunks) zero chunk found =
     let its : c ≡ chunk = cc in
     or_left (c.start == chunk.start) (has_chunk_at chunks chunk.start)
@@ -138,8 +138,8 @@ has_its_start (c ∷ chunks) zero chunk found =
   where
     equal : (a b : ℕ) → a ≡ b → (a == b) ≡ true
     equal a b e = grind (arith, nat_tests)
-has_its_start (c ∷ chunks) (suc place) chunk found =
-    or_right (c.start == chunk.start) (has_chunk_at chunks chunk.start) (has_its_start chunks place chunk found)
+has_its_start (c ∷ chunks) (suc index) chunk found =
+    or_right (c.start == chunk.start) (has_chunk_at chunks chunk.start) (has_its_start chunks index chunk found)
 
 -- A chunk that grew starts where it did, and its front is no lower and reaches as far as was asked.
 pub record Reaches (was is : Chunk) (total : ℕ) : Type 0 where
@@ -243,18 +243,18 @@ in_use_below space arena live run are sound used =
     (recursion_from_All (IsInside space) arena.chunks are.inside) sound.tops used
 
 -- A sum over the first chunks, and one more.
-pub sum_more : (f : Chunk → ℕ) (chunks : List Chunk) (place total : ℕ) (chunk : Chunk)
-    → slice_get chunks place ≡ Some chunk
-    → total ≡ sum_by f (take place chunks) → total + f chunk ≡ sum_by f (take (place + 1) chunks)
-sum_more f chunks place total chunk found is =
+pub sum_more : (f : Chunk → ℕ) (chunks : List Chunk) (index total : ℕ) (chunk : Chunk)
+    → slice_get chunks index ≡ Some chunk
+    → total ≡ sum_by f (take index chunks) → total + f chunk ≡ sum_by f (take (index + 1) chunks)
+sum_more f chunks index total chunk found is =
     omega (
       arith,
       is,
-      sum_by_more f chunks place chunk (within chunks place found),
-      ap f (get_or_from_slice_get chunks place chunk chunk found),
+      sum_by_more f chunks index chunk (within chunks index found),
+      ap f (get_or_from_slice_get chunks index chunk chunk found),
     )
   where
-    within : (chunks : List Chunk) (place : ℕ) → slice_get chunks place ≡ Some chunk → place < length chunks
-    within [] place found = absurd (cc)
+    within : (chunks : List Chunk) (index : ℕ) → slice_get chunks index ≡ Some chunk → index < length chunks
+    within [] index found = absurd (cc)
     within (c ∷ chunks) zero found = omega arith
-    within (c ∷ chunks) (suc place) found = omega (arith, within chunks place found)
+    within (c ∷ chunks) (suc index) found = omega (arith, within chunks index found)

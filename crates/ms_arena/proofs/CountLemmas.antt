@@ -1,4 +1,4 @@
--- How many pages of a group are written, as a page is set and as pages with no place come at the
+-- How many pages of a group are written, as a page is set and as pages with no position come at the
 -- end. The functions of `pages` that count use these.
 use Rattle.std.proofs.Common.{◌≡◌, ℕ, ◌+◌, ◌-◌, ◌*◌, ◌/◌, ◌%◌, ◌<◌, ◌≤◌, Bool, true, false, cond, List, [], ◌∷◌, ◌++◌, length}
 use Rattle.std.proofs.Common.{get_or, replicate, refl, sym, ap, ◌∙◌, inl, inr, arith, zero, suc, subst}
@@ -48,7 +48,7 @@ none_past [] first m past = none_listed first m
 none_past (page ∷ more) zero m past = absurd (omega arith)
 none_past (page ∷ more) (suc first) m past = none_past more first m (omega arith)
 
--- Pages with no place at the end change no count.
+-- Pages with no position at the end change no count.
 same_longer : (pages : List Page) (k first m : ℕ)
     → written_from (pages ++ replicate k no_page) first m ≡ written_from pages first m
 same_longer [] k first m = none_blank k first m ∙ sym (none_listed first m)

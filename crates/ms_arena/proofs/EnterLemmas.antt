@@ -1,4 +1,4 @@
--- An arena's blocks once one enters or goes. For `Arena::place`, `alloc` and `free`.
+-- An arena's blocks once one enters or goes. For `Arena::position`, `alloc` and `free`.
 use Rattle.std.proofs.Common.{◌≡◌, ◌≤◌, ℕ, Bool, true, Option, Some, None, List}
 use Rattle.std.proofs.Common.{◌++◌, replicate, refl, sym, ap, ◌∙◌, inl, inr, arith}
 use Rattle.std.specs.Prelude.{nat_le}
@@ -15,7 +15,7 @@ use Rattle.ms_base.specs.Names.{named, with_new, without}
 use Rattle.ms_base.proofs.entries.EntryLemmas.{Split, split_at, Gap, gap_at}
 use Rattle.ms_base.proofs.entries.HashedLemmas.{Sets, without_by_name}
 use Rattle.ms_arena.specs.Arena.{FreesBlock}
-use Rattle.ms_arena.specs.Raw.{RawView, Gains, FreesRun, Holds, contents_at, live_in, with_live}
+use Rattle.ms_arena.specs.Raw.{RawArenaView, Gains, FreesRun, Holds, contents_at, live_in, with_live}
 use Rattle.ms_arena.specs.Words.{value_at}
 use Rattle.ms_arena.proofs.HoldLemmas.{IsClear, clear_of_new}
 use Rattle.ms_arena.proofs.ContentsLemmas.{contents_stay}
@@ -39,7 +39,7 @@ is_long runs kept start n all found =
     (AllPass-from_list_all is_two runs
     (and_parts (list_all is_two runs) (list_all is_two kept) (sym (list_all-append is_two runs kept) ∙ all)).0)) found)
 
-none_starts_there : (old new : RawView) (block : Block) (runs : List (ℕ × ℕ)) → Holds old runs → Gains old block new
+none_starts_there : (old new : RawArenaView) (block : Block) (runs : List (ℕ × ℕ)) → Holds old runs → Gains old block new
     → named runs block.start ≡ None
 none_starts_there old new block runs holds gains = none (named runs block.start) refl
   where
@@ -53,12 +53,12 @@ none_starts_there old new block runs holds gains = none (named runs block.start)
         absurd (cc (clear, meets))
 
 -- A block that is placed: the list has it then, and what is shown.
-pub record Enters (old new : RawView) (block : Block) (runs more : List (ℕ × ℕ)) : Type 0 where
+pub record Enters (old new : RawArenaView) (block : Block) (runs more : List (ℕ × ℕ)) : Type 0 where
   pub holds : Holds new more
   pub fresh : named (live_in old.words runs) block.start ≡ None
   pub live : live_in new.words more ≡ with_new (live_in old.words runs) block.start (replicate block.words 0)
 
-pub enters : (old new : RawView) (block : Block) (runs made more : List (ℕ × ℕ)) → Holds old runs → Gains old block new
+pub enters : (old new : RawArenaView) (block : Block) (runs made more : List (ℕ × ℕ)) → Holds old runs → Gains old block new
     → made ≡ runs → more ≡ with_new made block.start block.words → Enters old new block runs more
 enters old new block runs made more holds gains same more_are = record {
   holds = holds_more old new block runs more gap.before gap.after holds gains gap.is (is ∙ gap.made block.words);
@@ -93,11 +93,11 @@ enters old new block runs made more holds gains same more_are = record {
         ])
 
 -- A live block that goes.
-pub record Goes (old new : RawView) (block : Block) (runs fewer : List (ℕ × ℕ)) : Type 0 where
+pub record Goes (old new : RawArenaView) (block : Block) (runs fewer : List (ℕ × ℕ)) : Type 0 where
   pub holds : Holds new fewer
   pub frees : FreesBlock (with_live old (live_in old.words runs)) block (with_live new (live_in new.words fewer))
 
-pub goes : (old new : RawView) (block : Block) (was is : List (ℕ × ℕ)) → Holds old (by_name was)
+pub goes : (old new : RawArenaView) (block : Block) (was is : List (ℕ × ℕ)) → Holds old (by_name was)
     → FreesRun old block new → named (by_name was) block.start ≡ Some block.words → Sets was is block.start None
     → Goes old new block (by_name was) (by_name is)
 goes old new block was is holds frees found sets = record {
@@ -108,9 +108,9 @@ goes old new block was is holds frees found sets = record {
     live = is_live old runs block found;
     after = ap (λ (live : List (ℕ × List ℕ)). with_live new live)
         (ap (live_in new.words) fewer
-        ∙ ap (λ (raw : RawView). live_in raw.words (without runs block.start)) frees
+        ∙ ap (λ (raw : RawArenaView). live_in raw.words (without runs block.start)) frees
         ∙ without_live old.words runs block.start)
-        ∙ ap (λ (raw : RawView). with_live raw (without (live_in old.words runs) block.start)) frees;
+        ∙ ap (λ (raw : RawArenaView). with_live raw (without (live_in old.words runs) block.start)) frees;
   };
 }
   where

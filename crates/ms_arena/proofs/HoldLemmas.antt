@@ -18,7 +18,7 @@ use Rattle.ms_base.proofs.arena.KeptLemmas.{IsTakenOut, sound_with_live, sound_w
 use Rattle.ms_blocks.specs.FreeBlocks.{run_of}
 use Rattle.ms_pool.specs.Account.{AreChunks}
 use Rattle.ms_arena.specs.Books.{Awaits}
-use Rattle.ms_arena.specs.Raw.{RawView, Gains, FreesRun, Holds, IsSameRaw, RunIsThere}
+use Rattle.ms_arena.specs.Raw.{RawArenaView, Gains, FreesRun, Holds, IsSameRaw, RunIsThere}
 use Rattle.ms_arena.specs.Words.{WordsView, IsThere, Writes}
 use Rattle.ms_arena.proofs.AwaitLemmas.{fits_from, sound_alone}
 use Rattle.ms_arena.proofs.ChunkLemmas.{used_small}
@@ -63,7 +63,7 @@ there_still old new runs stay all =
     (λ run its. record { each = λ word low high. stay word (its.each word low high); ends = its.ends }) all
 
 -- A block more is held.
-pub holds_more : (old new : RawView) (block : Block) (runs more b a : List (ℕ × ℕ)) → Holds old runs
+pub holds_more : (old new : RawArenaView) (block : Block) (runs more b a : List (ℕ × ℕ)) → Holds old runs
     → Gains old block new → runs ≡ b ++ a → more ≡ b ++ (block.start, block.words) ∷ a → Holds new more
 holds_more old new block runs more b a holds gains runs_are more_are = subst (Holds new) (sym more_are) (record {
   chunks = gains.chunks;
@@ -92,16 +92,16 @@ holds_more old new block runs more b a holds gains runs_are more_are = subst (Ho
     awaits = gains.awaits.each (b ++ a) (subst (IsSound old.books) runs_are holds.sound)
 
 -- A block may be freed, and is held no more.
-pub record MayFree (raw : RawView) (block : Block) : Type 0 where
+pub record MayFree (raw : RawArenaView) (block : Block) : Type 0 where
   pub some : 0 < raw.count
   pub awaits : Awaits raw.books [] (run_of block)
 
-taken_out : (raw : RawView) (block : Block) (runs b a : List (ℕ × ℕ)) → Holds raw runs
+taken_out : (raw : RawArenaView) (block : Block) (runs b a : List (ℕ × ℕ)) → Holds raw runs
     → runs ≡ b ++ (block.start, block.words) ∷ a → IsTakenOut raw.books (b ++ a) (block.start, block.words)
 taken_out raw block runs b a holds runs_are =
     live_taken_out raw.books b (block.start, block.words) a (subst (IsSound raw.books) runs_are holds.sound)
 
-pub may_free : (raw : RawView) (block : Block) (runs b a : List (ℕ × ℕ)) → Holds raw runs
+pub may_free : (raw : RawArenaView) (block : Block) (runs b a : List (ℕ × ℕ)) → Holds raw runs
     → runs ≡ b ++ (block.start, block.words) ∷ a → MayFree raw block
 may_free raw block runs b a holds runs_are = record {
   some = omega (arith, holds.counted, ap length runs_are, length-append b ((block.start, block.words) ∷ a));
@@ -118,15 +118,15 @@ may_free raw block runs b a holds runs_are = record {
     out : IsTakenOut raw.books (b ++ a) (block.start, block.words)
     out = taken_out raw block runs b a holds runs_are
 
-pub holds_fewer : (old new : RawView) (block : Block) (runs fewer b a : List (ℕ × ℕ)) → Holds old runs
+pub holds_fewer : (old new : RawArenaView) (block : Block) (runs fewer b a : List (ℕ × ℕ)) → Holds old runs
     → FreesRun old block new → runs ≡ b ++ (block.start, block.words) ∷ a → fewer ≡ b ++ a → Holds new fewer
 holds_fewer old new block runs fewer b a holds frees runs_are fewer_are = subst (Holds new) (sym fewer_are) (record {
-  chunks = subst (λ (raw : RawView). AreChunks raw.space raw.books.chunks) (sym frees) holds.chunks;
-  sound = subst (λ (books : ArenaState). IsSound books (b ++ a)) (sym (ap (λ (raw : RawView). raw.books) frees))
+  chunks = subst (λ (raw : RawArenaView). AreChunks raw.space raw.books.chunks) (sym frees) holds.chunks;
+  sound = subst (λ (books : ArenaState). IsSound books (b ++ a)) (sym (ap (λ (raw : RawArenaView). raw.books) frees))
       (sound_with_kept old.books (b ++ a) run out.fits out.sound);
   counted = omega (
     arith,
-    ap (λ (raw : RawView). raw.count) frees,
+    ap (λ (raw : RawArenaView). raw.count) frees,
     holds.counted,
     ap length runs_are,
     length-append b a,
@@ -134,7 +134,7 @@ holds_fewer old new block runs fewer b a holds frees runs_are fewer_are = subst 
   );
   summed = omega (
     arith,
-    ap (λ (raw : RawView). raw.total) frees,
+    ap (λ (raw : RawArenaView). raw.total) frees,
     holds.summed,
     ap words_of runs_are,
     words_with b run a,
@@ -142,7 +142,7 @@ holds_fewer old new block runs fewer b a holds frees runs_are fewer_are = subst 
   );
   there = All-from_recursion (RunIsThere new.words) (b ++ a)
       (there_still old.words new.words (b ++ a)
-      (λ word there. subst (λ (raw : RawView). IsThere raw.words word) (sym frees) there)
+      (λ word there. subst (λ (raw : RawArenaView). IsThere raw.words word) (sym frees) there)
       (all_but (RunIsThere old.words) b run a all));
 })
   where
@@ -160,7 +160,7 @@ holds_fewer old new block runs fewer b a holds frees runs_are fewer_are = subst 
     its = all_at (RunIsThere old.words) b run a all
 
 -- The words of a block that is held are there.
-pub run_there : (raw : RawView) (run : ℕ × ℕ) (runs b a : List (ℕ × ℕ)) → Holds raw runs → runs ≡ b ++ run ∷ a
+pub run_there : (raw : RawArenaView) (run : ℕ × ℕ) (runs b a : List (ℕ × ℕ)) → Holds raw runs → runs ≡ b ++ run ∷ a
     → RunIsThere raw.words run
 run_there raw run runs b a holds runs_are =
     all_at (RunIsThere raw.words) b run a
@@ -168,33 +168,33 @@ run_there raw run runs b a holds runs_are =
     (subst (All (RunIsThere raw.words)) runs_are holds.there))
 
 -- All are held still where nothing else changes, and where a word is written.
-holds_alike : (old new : RawView) (runs : List (ℕ × ℕ)) → new ≡ record old { words = new.words }
+holds_alike : (old new : RawArenaView) (runs : List (ℕ × ℕ)) → new ≡ record old { words = new.words }
     → ((word : ℕ) → IsThere old.words word → IsThere new.words word) → Holds old runs → Holds new runs
 holds_alike old new runs same stay holds = record {
-  chunks = subst (λ (raw : RawView). AreChunks raw.space raw.books.chunks) (sym same) holds.chunks;
-  sound = subst (λ (books : ArenaState). IsSound books runs) (sym (ap (λ (raw : RawView). raw.books) same)) holds.sound;
-  counted = ap (λ (raw : RawView). raw.count) same ∙ holds.counted;
-  summed = ap (λ (raw : RawView). raw.total) same ∙ holds.summed;
+  chunks = subst (λ (raw : RawArenaView). AreChunks raw.space raw.books.chunks) (sym same) holds.chunks;
+  sound = subst (λ (books : ArenaState). IsSound books runs) (sym (ap (λ (raw : RawArenaView). raw.books) same)) holds.sound;
+  counted = ap (λ (raw : RawArenaView). raw.count) same ∙ holds.counted;
+  summed = ap (λ (raw : RawArenaView). raw.total) same ∙ holds.summed;
   there = All-from_recursion (RunIsThere new.words) runs
       (there_still old.words new.words runs stay (recursion_from_All (RunIsThere old.words) runs holds.there));
 }
 
-pub holds_same : (old new : RawView) (runs : List (ℕ × ℕ)) → IsSameRaw old new → Holds old runs → Holds new runs
+pub holds_same : (old new : RawArenaView) (runs : List (ℕ × ℕ)) → IsSameRaw old new → Holds old runs → Holds new runs
 holds_same old new runs same holds =
-    holds_alike old new runs same.rest (λ word there. rw (same.words.places word) there) holds
+    holds_alike old new runs same.rest (λ word there. rw (same.words.positions word) there) holds
 
-pub holds_written : (old new : RawView) (runs : List (ℕ × ℕ)) (word value : ℕ) → new ≡ record old { words = new.words }
+pub holds_written : (old new : RawArenaView) (runs : List (ℕ × ℕ)) (word value : ℕ) → new ≡ record old { words = new.words }
     → Writes old.words word value new.words → Holds old runs → Holds new runs
 holds_written old new runs word value same writes holds =
-    holds_alike old new runs same (λ word there. rw (writes.places word) there) holds
+    holds_alike old new runs same (λ word there. rw (writes.positions word) there) holds
 
 -- The words of the blocks that are held, and that with free blocks they are no more than are in
 -- use.
-pub record IsWithin (raw : RawView) (runs : List (ℕ × ℕ)) : Type 0 where
+pub record IsWithin (raw : RawArenaView) (runs : List (ℕ × ℕ)) : Type 0 where
   pub total : raw.total ≡ sum_by (λ (run : ℕ × ℕ). run.1) runs
   pub fit : raw.total + kept_of raw.books ≤ used_of raw.books
 
-pub held_within : (raw : RawView) (runs : List (ℕ × ℕ)) → Holds raw runs → IsWithin raw runs
+pub held_within : (raw : RawArenaView) (runs : List (ℕ × ℕ)) → Holds raw runs → IsWithin raw runs
 held_within raw runs holds = record {
   total = exact;
   fit = omega (arith, exact, blocks_within raw.books runs holds.sound);
@@ -245,12 +245,12 @@ of_live run live kept clear =
     (sym (list_any-append (λ (r : ℕ × ℕ). meet run.0 run.1 r.0 r.1) live kept) ∙ clear)).0
 
 -- The blocks that are held lie clear of one that comes, and of each other.
-pub clear_of_new : (old new : RawView) (block : Block) (runs : List (ℕ × ℕ)) → Holds old runs → Gains old block new
+pub clear_of_new : (old new : RawArenaView) (block : Block) (runs : List (ℕ × ℕ)) → Holds old runs → Gains old block new
     → AllByRecursion (IsClear (block.start, block.words)) runs
 clear_of_new old new block runs holds gains =
     of_live (block.start, block.words) runs new.books.kept (gains.awaits.each runs holds.sound).clear
 
-pub clear_of_each : (raw : RawView) (block : Block) (runs b a : List (ℕ × ℕ)) → Holds raw runs
+pub clear_of_each : (raw : RawArenaView) (block : Block) (runs b a : List (ℕ × ℕ)) → Holds raw runs
     → runs ≡ b ++ (block.start, block.words) ∷ a → AllByRecursion (IsClear (block.start, block.words)) (b ++ a)
 clear_of_each raw block runs b a holds runs_are =
     of_live (block.start, block.words) (b ++ a) raw.books.kept (taken_out raw block runs b a holds runs_are).fits.clear

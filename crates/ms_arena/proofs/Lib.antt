@@ -13,5 +13,5 @@ mod EnterLemmas
 mod PagesLemmas
 mod PageMakeLemmas
 mod CountLemmas
-mod PlacesLemmas
+mod PositionLemmas
 pub mod OthersLemmas

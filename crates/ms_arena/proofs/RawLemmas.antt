@@ -15,7 +15,7 @@ opened : (old made new : WordsView) (start end : ℕ) → StayWords old made →
 opened old made new start end stay opens = record {
   zero = opens.zero;
   here = opens.here;
-  there = λ word there. opens.there word (rw (stay.places word) there);
+  there = λ word there. opens.there word (rw (stay.positions word) there);
   before = λ word low. opens.before word low ∙ stay.values word;
   after = λ word high. opens.after word high ∙ stay.values word;
 }

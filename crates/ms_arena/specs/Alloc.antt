@@ -10,7 +10,7 @@ use Rattle.ms_base.specs.declared.refusal.Refusal.{Refusal}
 use Rattle.ms_base.specs.Level.{level_that_holds}
 use Rattle.ms_base.specs.Live.{block_words}
 use Rattle.ms_base.specs.State.{ArenaState}
-use Rattle.ms_base.specs.Place.{placed, current, current_top, last_place, with_top, with_taken}
+use Rattle.ms_base.specs.Place.{placed, current, current_top, last_index, with_top, with_taken}
 use Rattle.ms_base.specs.Asks.{asks_growth, may_enlarge, total_asked, wanted_level}
 use Rattle.ms_pool.specs.Account.{AccountState}
 use Rattle.ms_pool.specs.Lending.{chunk_at, reaching}
@@ -25,7 +25,7 @@ GrowRelation S = S → AccountState → ℕ → ℕ → Bool → Result Span Ref
 
 -- The books with another current chunk.
 abbrev pub with_current : ArenaState → Chunk → ArenaState
-with_current books chunk = record books { chunks = slice_set books.chunks (last_place books) chunk }
+with_current books chunk = record books { chunks = slice_set books.chunks (last_index books) chunk }
 
 -- The arena with a block at the current chunk's top, once that chunk has grown to reach its end.
 abbrev pub with_block_grown : Policy → ArenaView → Chunk → ℕ → ArenaView

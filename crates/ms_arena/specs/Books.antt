@@ -31,7 +31,7 @@ pub record BooksView : Type 0 where
   pub state : ArenaState
   pub room : ℕ
   pub came : ℕ
-  pub places : ℕ
+  pub spare_tops : ℕ
 
 -- The account of the books.
 abbrev pub account_in : BooksView → AccountState
@@ -44,7 +44,7 @@ arena_over books kind live =
 
 -- The books are as they were, but for room, of which there is no less.
 pub record IsSameBooks (old new : BooksView) : Type 0 where
-  pub rest : new ≡ record old { room = new.room; came = new.came; places = new.places }
+  pub rest : new ≡ record old { room = new.room; came = new.came; spare_tops = new.spare_tops }
   pub more : old.room ≤ new.room
 
 -- What is kept true of books: the chunks are an account's, each has its top, the words in use are
@@ -73,7 +73,7 @@ pub record MayPlace (books : BooksView) (level n : ℕ) : Type 0 where
   pub some : 2 ≤ n
   pub fits : n ≤ size_of level
   pub room : 0 < books.room
-  pub places : 0 < books.places
+  pub spare_tops : 0 < books.spare_tops
 
 -- What that leaves: the block's words await it, the chunks are an account's, and at most one more
 -- free block is kept; a refusal changes nothing.

@@ -4,7 +4,7 @@ pub mod ArenaSums
 pub mod Books
 pub mod Kept
 pub mod Pages
-pub mod Places
+pub mod Positions
 pub mod Words
 pub mod Raw
 pub mod Others

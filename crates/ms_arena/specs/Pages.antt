@@ -1,4 +1,4 @@
--- A list of words of which most are 0, kept as pages of 512 words: each has its place in a store
+-- A list of words of which most are 0, kept as pages of 512 words: each has its position in a store
 -- from its first write on, and its words count as 0 until it is written and once it is cleared (our
 -- choice).
 use Rattle.std.specs.Prelude.{◌≡◌, ℕ, ◌+◌, ◌-◌, ◌*◌, ◌/◌, ◌%◌, ◌<◌, ◌≤◌, Bool, true, false, cond, List, length}
@@ -14,14 +14,14 @@ pub record PagesView : Type 0 where
 
 -- A page that was never written.
 abbrev pub no_page : Page
-no_page = record { place = 0; written = false }
+no_page = record { position = 0; written = false }
 
 abbrev pub page_at : List Page → ℕ → Page
 page_at pages number = slice_index_or pages number no_page
 
--- Where the page of a place begins in the store.
+-- Where the page of a position begins in the store.
 abbrev pub base_of : Page → ℕ
-base_of page = 512 * (page.place - 1)
+base_of page = 512 * (page.position - 1)
 
 -- A word of a page, by its offset there, and a word by its number.
 abbrev pub word_in : List ℕ → Page → ℕ → ℕ
@@ -30,18 +30,18 @@ word_in store page offset = cond page.written (slice_index store (base_of page +
 abbrev pub word_at : PagesView → ℕ → ℕ
 word_at words at = word_in words.store (page_at words.pages (at / 512)) (at % 512)
 
--- Whether a page has a place.
-abbrev pub is_placed : Page → Bool
-is_placed page = nat_lt 0 page.place
+-- Whether a page has a position.
+abbrev pub is_stored : Page → Bool
+is_stored page = nat_lt 0 page.position
 
--- What is kept true: the store has the pages with a place and no others, each at its own, and there
+-- What is kept true: the store has the pages with a position and no others, each at its own, and there
 -- is room in both for as many as said.
 pub record ArePages (words : PagesView) (pages_capacity store_capacity : ℕ) : Type 0 where
-  pub stored : length words.store ≡ 512 * count_by is_placed words.pages
-  pub below : (number : ℕ) → (page_at words.pages number).place ≤ count_by is_placed words.pages
-  pub own : (number other : ℕ) → 0 < (page_at words.pages number).place
-      → (page_at words.pages number).place ≡ (page_at words.pages other).place → number ≡ other
-  pub placed : (number : ℕ) → (page_at words.pages number).written ≡ true → 0 < (page_at words.pages number).place
+  pub stored : length words.store ≡ 512 * count_by is_stored words.pages
+  pub below : (number : ℕ) → (page_at words.pages number).position ≤ count_by is_stored words.pages
+  pub own : (number other : ℕ) → 0 < (page_at words.pages number).position
+      → (page_at words.pages number).position ≡ (page_at words.pages other).position → number ≡ other
+  pub placed : (number : ℕ) → (page_at words.pages number).written ≡ true → 0 < (page_at words.pages number).position
   pub few : length words.pages ≤ words.room
   pub pages_room : words.room ≤ pages_capacity
   pub store_room : 512 * words.room ≤ store_capacity

@@ -16,7 +16,7 @@ use Rattle.ms_arena.specs.Words.{WordsView, StayWords, Opens, IsThere, value_at}
 
 -- Its owner's number, its space, its loader's kind; its chunks, tops and free blocks; how many
 -- blocks are live, how many words they have together, modulo 2^64; and the words by number.
-pub record RawView : Type 0 where
+pub record RawArenaView : Type 0 where
   pub owner : ℕ
   pub space : Space
   pub kind : Kind
@@ -26,7 +26,7 @@ pub record RawView : Type 0 where
   pub words : WordsView
 
 -- What the fields of one stand for.
-abbrev pub raw_over : BooksView → Kind → ℕ → ℕ → WordsView → RawView
+abbrev pub raw_over : BooksView → Kind → ℕ → ℕ → WordsView → RawArenaView
 raw_over books kind count total words =
     record {
       owner = books.owner;
@@ -39,11 +39,11 @@ raw_over books kind count total words =
     }
 
 -- Its account.
-abbrev pub raw_account : RawView → AccountState
+abbrev pub raw_account : RawArenaView → AccountState
 raw_account raw = record { owner = raw.owner; space = raw.space; chunks = raw.books.chunks }
 
 -- The arena that it is with these live blocks, as contents by start.
-abbrev pub with_live : RawView → List (ℕ × List ℕ) → ArenaView
+abbrev pub with_live : RawArenaView → List (ℕ × List ℕ) → ArenaView
 with_live raw live =
     record { owner = raw.owner; space = raw.space; kind = raw.kind; books = raw.books; live = live }
 
@@ -64,7 +64,7 @@ abbrev pub live_in : WordsView → List (ℕ × ℕ) → List (ℕ × List ℕ)
 live_in words runs = map (λ (run : ℕ × ℕ). (run.0, contents_at words run)) runs
 
 -- It has nothing yet but an account.
-pub record IsNewRaw (account : AccountState) (kind : Kind) (raw : RawView) : Type 0 where
+pub record IsNewRaw (account : AccountState) (kind : Kind) (raw : RawArenaView) : Type 0 where
   pub owner : raw.owner ≡ account.owner
   pub space : raw.space ≡ account.space
   pub kind_is : raw.kind ≡ kind
@@ -73,13 +73,13 @@ pub record IsNewRaw (account : AccountState) (kind : Kind) (raw : RawView) : Typ
   pub total : raw.total ≡ 0
 
 -- All is as it was, but for room.
-pub record IsSameRaw (old new : RawView) : Type 0 where
+pub record IsSameRaw (old new : RawArenaView) : Type 0 where
   pub rest : new ≡ record old { words = new.words }
   pub words : StayWords old.words new.words
 
 -- A block more is live: it has at least two words, which awaited it, and are there and 0; the chunks
 -- are an account's.
-pub record Gains (old : RawView) (block : Block) (new : RawView) : Type 0 where
+pub record Gains (old : RawArenaView) (block : Block) (new : RawArenaView) : Type 0 where
   pub long : 2 ≤ block.words
   pub awaits : AwaitsBlock old.books new.books block.start block.words
   pub chunks : AreChunks new.space new.books.chunks
@@ -91,7 +91,7 @@ pub record Gains (old : RawView) (block : Block) (new : RawView) : Type 0 where
   pub kind : new.kind ≡ old.kind
 
 -- A block less is live: its words are a free block, and stay as they are.
-abbrev pub FreesRun : RawView → Block → RawView → Type 0
+abbrev pub FreesRun : RawArenaView → Block → RawArenaView → Type 0
 FreesRun old block new = new ≡ record old {
   books = record old.books { kept = with_new old.books.kept block.start block.words };
   count = old.count - 1;
@@ -105,7 +105,7 @@ pub record RunIsThere (words : WordsView) (run : ℕ × ℕ) : Type 0 where
 
 -- These runs are its live blocks: its chunks are an account's, its books are sound with the runs,
 -- these are counted with their words, and each word of them is there.
-pub record Holds (raw : RawView) (runs : List (ℕ × ℕ)) : Type 0 where
+pub record Holds (raw : RawArenaView) (runs : List (ℕ × ℕ)) : Type 0 where
   pub chunks : AreChunks raw.space raw.books.chunks
   pub sound : IsSound raw.books runs
   pub counted : raw.count ≡ length runs

@@ -1,38 +1,38 @@
 -- The words of an arena's blocks by their numbers in the space, kept stretch by stretch: each
--- stretch that a block reached into has a place in a list of words of which most are 0 (our
+-- stretch that a block reached into has a position in a list of words of which most are 0 (our
 -- choice).
 use Rattle.std.specs.Prelude.{◌≡◌, ◌≢◌, ℕ, ◌+◌, ◌-◌, ◌*◌, ◌/◌, ◌%◌, ◌^◌, ◌<◌, ◌≤◌, cond, nat_lt}
 use Rattle.ms_arena.specs.Pages.{PagesView, word_at}
-use Rattle.ms_arena.specs.Places.{PlacesView, place_of}
+use Rattle.ms_arena.specs.Positions.{PositionsView, position_of}
 
--- The places of stretches, the list, how many places were given, and for how many more there is
+-- The positions of stretches, the list, how many positions were given, and for how many more there is
 -- room.
 pub record WordsView : Type 0 where
-  pub places : PlacesView
+  pub positions : PositionsView
   pub list : PagesView
   pub given : ℕ
   pub ready : ℕ
 
--- The place of a word's stretch, counted from 1; 0 where it has none.
-abbrev pub place_at : WordsView → ℕ → ℕ
-place_at words word = place_of words.places (word / 2048)
+-- The position of a word's stretch, counted from 1; 0 where it has none.
+abbrev pub position_at : WordsView → ℕ → ℕ
+position_at words word = position_of words.positions (word / 2048)
 
--- A word of a place by its offset there, and a word by its number; it is 0 where its stretch has no
--- place.
+-- A word of a position by its offset there, and a word by its number; it is 0 where its stretch has no
+-- position.
 abbrev pub value_in : PagesView → ℕ → ℕ → ℕ
-value_in list place offset = cond (nat_lt 0 place) (word_at list (2048 * (place - 1) + offset)) 0
+value_in list position offset = cond (nat_lt 0 position) (word_at list (2048 * (position - 1) + offset)) 0
 
 abbrev pub value_at : WordsView → ℕ → ℕ
-value_at words word = value_in words.list (place_at words word) (word % 2048)
+value_at words word = value_in words.list (position_at words word) (word % 2048)
 
--- The word's stretch has a place.
+-- The word's stretch has a position.
 abbrev pub IsThere : WordsView → ℕ → Type 0
-IsThere words word = 0 < place_at words word
+IsThere words word = 0 < position_at words word
 
 -- All words stay, and where they are.
 pub record StayWords (old new : WordsView) : Type 0 where
   pub values : (word : ℕ) → value_at new word ≡ value_at old word
-  pub places : (word : ℕ) → place_at new word ≡ place_at old word
+  pub positions : (word : ℕ) → position_at new word ≡ position_at old word
 
 -- There is room for a run of n words, wherever it lies.
 abbrev pub HasRoom : WordsView → ℕ → Type 0
@@ -59,14 +59,14 @@ pub record OpensIn (old : WordsView) (stretch start end : ℕ) (new : WordsView)
 pub record Writes (old : WordsView) (word value : ℕ) (new : WordsView) : Type 0 where
   pub written : value_at new word ≡ value
   pub others : (other : ℕ) → other ≢ word → value_at new other ≡ value_at old other
-  pub places : (other : ℕ) → place_at new other ≡ place_at old other
+  pub positions : (other : ℕ) → position_at new other ≡ position_at old other
 
--- What is kept true: places are those given, no two stretches have one, and the list has them all,
+-- What is kept true: positions are those given, no two stretches have one, and the list has them all,
 -- and both have room for as many more as said.
-pub record AreWords (places : PlacesView) (room given ready : ℕ) : Type 0 where
-  pub below : (stretch : ℕ) → place_of places stretch ≤ given
-  pub own : (stretch other : ℕ) → 0 < place_of places stretch → place_of places stretch ≡ place_of places other
+pub record AreWords (positions : PositionsView) (room given ready : ℕ) : Type 0 where
+  pub below : (stretch : ℕ) → position_of positions stretch ≤ given
+  pub own : (stretch other : ℕ) → 0 < position_of positions stretch → position_of positions stretch ≡ position_of positions other
       → stretch ≡ other
   pub list : 2048 * (given + ready) ≤ 512 * room
   pub fits : 512 * room < 2 ^ 63
-  pub spare : ready ≤ places.others.spare
+  pub spare : ready ≤ positions.others.spare

@@ -59,7 +59,7 @@ impl Model for Books {
       state = record { chunks = b.account.chunks; tops = b.tops.items; kept = b.kept.kept };
       room = b.kept.room;
       came = b.kept.came;
-      places = vec_capacity b.tops - vec_len b.tops;
+      spare_tops = vec_capacity b.tops - vec_len b.tops;
     } };
 
     ghost invariant = { λ b.
@@ -147,12 +147,12 @@ impl Books {
         ensures room { OnOk result (blocks ≤ self.new.room) }
         ensures few { OnOk result (self.new.room < 2 ^ 63) }
         ensures ordered { OnOk result (self.new.came ≡ 0) }
-        ensures places { OnOk result (1 ≤ self.new.places) }
+        ensures spare_tops { OnOk result (1 ≤ self.new.spare_tops) }
         ensures more { self.old.room ≤ self.new.room }
         ensures others { self.new ≡ record self.old {
           room = self.new.room;
           came = self.new.came;
-          places = self.new.places;
+          spare_tops = self.new.spare_tops;
         } }
     {
         self.kept.make_room(blocks)?;
@@ -290,7 +290,7 @@ impl Books {
 /// Makes room for more tops, where there is none left.
 #[inline(never)]
 fn make_top_room(tops: &mut Vec<u64>) -> Result<(), AllocError>
-    ensures places { OnOk result (1 ≤ vec_capacity tops.new - vec_len tops.new) }
+    ensures spare_tops { OnOk result (1 ≤ vec_capacity tops.new - vec_len tops.new) }
     ensures tops { tops.new.items ≡ tops.old.items }
 {
     tops.reserve(MORE_TOPS)
@@ -362,15 +362,15 @@ fn retire(tops: &mut Vec<u64>, used: &mut u64, kept: &mut Kept, former: Option<(
     keep_rest(kept, chunk.start + top, chunk.front - top);
 }
 
-/// Raises the top at a place, and the sum of the tops with it.
-fn raise(tops: &mut Vec<u64>, used: &mut u64, place: usize, top: u64)
-    requires within { place < length tops.old.items }
-    requires higher { slice_index tops.old.items place ≤ top }
+/// Raises the top at an index, and the sum of the tops with it.
+fn raise(tops: &mut Vec<u64>, used: &mut u64, index: usize, top: u64)
+    requires within { index < length tops.old.items }
+    requires higher { slice_index tops.old.items index ≤ top }
     requires summed { used.old ≡ sum tops.old.items }
     requires fits { used.old + top < 2 ^ 64 }
-    ensures tops { tops.new.items ≡ tops_with tops.old.items place top }
+    ensures tops { tops.new.items ≡ tops_with tops.old.items index top }
     ensures counted { StayCounted top tops.old used.old tops.new used.new }
 {
-    *used += top - tops[place];
-    tops[place] = top;
+    *used += top - tops[index];
+    tops[index] = top;
 }

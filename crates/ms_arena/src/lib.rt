@@ -12,7 +12,7 @@ mod books;
 mod kept;
 mod others;
 mod pages;
-mod places;
+mod positions;
 mod raw;
 mod totals;
 mod words;

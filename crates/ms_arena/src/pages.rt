@@ -2,16 +2,16 @@
 //!
 //!     words    0        512       1024      1536            512 * room
 //!              | page 0  | page 1  | page 2  |        ..        |
-//!     pages      place 2   no place  place 1   (none further on)
+//!     pages      at 2      nowhere   at 1      (nowhere further on)
 //!     store    | page 2  | page 0  |        room        |
 //!
 //! A page comes into the store when a word of it is first written, and its other words are made 0
 //! then. So a page that was never written takes no memory but its room, which nothing touches. A
-//! page that is cleared as a whole keeps its place and is only marked: it is zeroed when it is next
-//! written. A long list counts the written pages of each 64, so that to clear what was never
-//! written looks at no page. Kept true: the store has the pages with a place and no others, each at
-//! its own, and no more pages are written than are counted. Only `reserve` takes memory. HotSpot's
-//! arenas are memory themselves; this list stands for it.
+//! page that is cleared as a whole keeps its position and is only marked: it is zeroed when it is
+//! next written. A long list counts the written pages of each 64, so that to clear what was never
+//! written looks at no page. Kept true: the store has the pages with a position and no others, each
+//! at its own, and no more pages are written than are counted. Only `reserve` takes memory.
+//! HotSpot's arenas are memory themselves; this list stands for it.
 ghost use Rattle.std.specs.Prelude.{◌≡◌, ◌≢◌, ℕ, ◌+◌, ◌-◌, ◌*◌, ◌/◌, ◌^◌, ◌<◌, ◌≤◌, OnOk, OnErr, length};
 ghost use Rattle.std.specs.Prelude.{true, false, IfOk, IsTrue, List, slice_index, slice_set, vec_capacity};
 ghost use Rattle.ms_arena.specs.declared.pages.Page.{Page as PageOf};
@@ -32,8 +32,8 @@ const MANY: usize = 128;
 /// A page of the list.
 #[derive(Clone, Copy)]
 pub struct Page {
-    /// Which page of the store it is, counted from 1; 0 where it has no place.
-    place: usize,
+    /// Which page of the store it is, counted from 1; 0 where it has no position.
+    position: usize,
     /// Whether it was written since it was last cleared; else its words are 0.
     written: bool,
 }
@@ -41,9 +41,9 @@ pub struct Page {
 /// A list of words, of which most are 0.
 #[derive(Drop)]
 pub struct Pages {
-    /// The pages by their number; those further on have no place.
+    /// The pages by their number; those further on have no position.
     pages: Vec<Page>,
-    /// The words of the pages that have a place.
+    /// The words of the pages that have a position.
     store: Vec<u64>,
     /// How many pages there is room for.
     room: usize,
@@ -207,7 +207,7 @@ impl Pages {
         if number >= self.pages.len() {
             self.lengthen(number);
         }
-        if self.pages[number].place == 0 {
+        if self.pages[number].position == 0 {
             self.append(number);
         } else {
             self.renew(number);
@@ -224,7 +224,7 @@ impl Pages {
         ensures room { self.new.room ≡ self.old.room }
     {
         let page = Page {
-            place: 0,
+            position: 0,
             written: false,
         };
         match self.pages.resize(number + 1, page) {
@@ -233,10 +233,10 @@ impl Pages {
         }
     }
 
-    /// Gives a page its place, whose words are 0.
+    /// Gives a page its position, whose words are 0.
     fn append(&mut self, number: usize)
         requires there { number < length self.old.pages }
-        requires placeless { (page_at self.old.pages number).place ≡ 0 }
+        requires unstored { (page_at self.old.pages number).position ≡ 0 }
         ensures written { (page_at self.new.pages number).written ≡ true }
         ensures words { (at : ℕ) → word_at self.new at ≡ word_at self.old at }
         ensures room { self.new.room ≡ self.old.room }
@@ -247,7 +247,7 @@ impl Pages {
             Err(_) => unreachable!(),
         }
         self.pages[number] = Page {
-            place: len / PAGE + 1,
+            position: len / PAGE + 1,
             written: true,
         };
         count_up(&mut self.counts, number);
@@ -256,7 +256,7 @@ impl Pages {
     /// Zeroes the words of a page that was cleared.
     fn renew(&mut self, number: usize)
         requires there { number < length self.old.pages }
-        requires placed { 0 < (page_at self.old.pages number).place }
+        requires placed { 0 < (page_at self.old.pages number).position }
         requires unwritten { (page_at self.old.pages number).written ≡ false }
         ensures written { (page_at self.new.pages number).written ≡ true }
         ensures words { (at : ℕ) → word_at self.new at ≡ word_at self.old at }
@@ -266,7 +266,7 @@ impl Pages {
         let base = base_of(page);
         wipe(&mut self.store, base, base + PAGE);
         self.pages[number] = Page {
-            place: page.place,
+            position: page.position,
             written: true,
         };
         count_up(&mut self.counts, number);
@@ -294,7 +294,7 @@ impl Pages {
         let last = (end - PAGE * number).min(PAGE);
         if first == 0 && last == PAGE {
             self.pages[number] = Page {
-                place: page.place,
+                position: page.position,
                 written: false,
             };
             count_down(&mut self.counts, number);
@@ -395,11 +395,11 @@ fn copied<T: Copy>(alloc: Global, list: &[T], room: usize) -> Result<Vec<T>, All
 
 /// Returns where the words of a page begin in the store.
 fn base_of(page: Page) -> usize
-    requires placed { 0 < page.place }
-    requires fits { 512 * page.place < 2 ^ 64 }
-    ensures { result ≡ 512 * (page.place - 1) }
+    requires placed { 0 < page.position }
+    requires fits { 512 * page.position < 2 ^ 64 }
+    ensures { result ≡ 512 * (page.position - 1) }
 {
-    PAGE * (page.place - 1)
+    PAGE * (page.position - 1)
 }
 
 /// Makes the words of the store from one up to an end 0.

@@ -81,9 +81,9 @@ impl Drop for RawArena {
 
 impl Model for RawArena {
     ghost use Rattle.std.specs.Prelude.{◌≤◌};
-    ghost use Rattle.ms_arena.specs.Raw.{RawView, raw_over};
+    ghost use Rattle.ms_arena.specs.Raw.{RawArenaView, raw_over};
 
-    ghost Value = { RawView };
+    ghost Value = { RawArenaView };
 
     ghost view = { λ a. raw_over a.books a.kind a.count a.total a.words };
 
@@ -128,6 +128,7 @@ impl RawArena {
     /// a chunk, or a growth of one, is needed. Refused with `ZeroWords`, with `TooLarge` for more
     /// than 524288 words, and with `OutOfMemory`; whoever is refused finds the arena as it was.
     /// Takes memory.
+    #[inline(always)]
     pub fn place(&mut self, words: u64) -> Result<Option<Block>, Refusal>
         ensures placed { (live : List (ℕ × List ℕ)) → IfOk result (λ found.
             Places (with_live self.old live) words found (with_live self.new (live_with live found))) }
@@ -330,7 +331,7 @@ fn made_room(
     ensures room { OnOk result (live + 2 ≤ books.new.room) }
     ensures fits { OnOk result (live + 2 < 2 ^ 64) }
     ensures ordered { OnOk result (books.new.came ≡ 0) }
-    ensures places { OnOk result (0 < books.new.places) }
+    ensures spare_tops { OnOk result (0 < books.new.spare_tops) }
     ensures run { IfOk result (λ n. HasRoom words.new n) }
     ensures books { IsSameBooks books.old books.new }
     ensures words { StayWords words.old words.new }

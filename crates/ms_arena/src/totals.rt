@@ -33,8 +33,8 @@ pub(crate) fn sums_of(account: &Account) -> (u64, u64)
 {
     let mut capacity = 0;
     let mut fronts = 0;
-    for place in 0..account.held() {
-        let chunk = account.chunk(place);
+    for index in 0..account.held() {
+        let chunk = account.chunk(index);
         capacity += chunk.level.words();
         fronts += chunk.front;
     }

@@ -3,27 +3,27 @@
 //!     space    stretch 3           stretch 70          stretch 71
 //!              |..####..........|  |##.............|   |####...........|     # written
 //!     list     | stretch 3      | stretch 71     | stretch 70     |  room  |
-//!     place         1                  2                3
+//!     position      1                  2                3
 //!              0                2048             4096             6144
 //!
-//! A stretch of 2048 words that a block reaches into gets the next place of the list, and keeps it:
-//! so a word has one home, by its number, and a block that starts where another did finds what that
-//! one wrote, which is cleared first. A word whose stretch has no place is 0. Kept true: no two
-//! stretches have one place, and the list has room for all. Only `reserve` takes memory. Stands on
-//! `places` and `pages`. HotSpot's arenas are memory themselves; this stands for it.
+//! A stretch of 2048 words that a block reaches into gets the next position of the list, and keeps
+//! it: so a word has one home, by its number, and a block that starts where another did finds what
+//! that one wrote, which is cleared first. A word whose stretch has no position is 0. Kept true: no
+//! two stretches have one position, and the list has room for all. Only `reserve` takes memory.
+//! Stands on `positions` and `pages`. HotSpot's arenas are memory themselves; this stands for it.
 ghost use Rattle.std.specs.Prelude.{◌≡◌, ℕ, ◌+◌, ◌-◌, ◌*◌, ◌/◌, ◌^◌, ◌<◌, ◌≤◌, OnOk};
-ghost use Rattle.ms_arena.specs.Places.{place_of};
-ghost use Rattle.ms_arena.specs.Words.{StayWords, HasRoom, Opens, OpensIn, IsThere, Writes, place_at, value_at};
+ghost use Rattle.ms_arena.specs.Positions.{position_of};
+ghost use Rattle.ms_arena.specs.Words.{StayWords, HasRoom, Opens, OpensIn, IsThere, Writes, position_at, value_at};
 
 use crate::pages::Pages;
-use crate::places::Places;
+use crate::positions::Positions;
 use std::alloc::{AllocError, Global};
 use std::marker::Model;
 
 /// The words of a stretch.
 const STRETCH: usize = 2048;
 
-/// For how many places room is made at least, where few blocks are to come.
+/// For how many positions room is made at least, where few blocks are to come.
 const FEW: usize = 4;
 
 /// For how many where many are: so few arenas ask again.
@@ -32,13 +32,13 @@ const MANY: usize = 7;
 /// The words of an arena's blocks. A word has its number in the space.
 #[derive(Drop)]
 pub struct Words {
-    /// The places of stretches, counted from 1.
-    places: Places,
-    /// The words, place by place.
+    /// The positions of stretches, counted from 1.
+    positions: Positions,
+    /// The words, position by position.
     list: Pages,
-    /// How many places were given.
+    /// How many positions were given.
     given: usize,
-    /// For how many places more there is room.
+    /// For how many positions more there is room.
     ready: usize,
 }
 
@@ -47,39 +47,39 @@ impl Model for Words {
 
     ghost Value = { WordsView };
 
-    ghost view = { λ w. record { places = w.places; list = w.list; given = w.given; ready = w.ready } };
+    ghost view = { λ w. record { positions = w.positions; list = w.list; given = w.given; ready = w.ready } };
 
-    ghost invariant = { λ w. AreWords w.places w.list.room w.given w.ready };
+    ghost invariant = { λ w. AreWords w.positions w.list.room w.given w.ready };
 }
 
 impl Words {
-    /// Makes a list of no place, which takes its memory from the allocator. Takes none yet.
+    /// Makes a list of no position, which takes its memory from the allocator. Takes none yet.
     pub(crate) fn new(alloc: Global) -> Words
-        ensures { (word : ℕ) → place_at result word ≡ 0 }
+        ensures { (word : ℕ) → position_at result word ≡ 0 }
     {
         Words {
-            places: Places::new(alloc),
+            positions: Positions::new(alloc),
             list: Pages::new(alloc),
             given: 0,
             ready: 0,
         }
     }
 
-    /// Takes all places away, and keeps the memory that they had, with the room for more. What the
-    /// words held stays there, and is cleared where a place is given again. Out of line, since many
-    /// an arena that starts anew had none.
+    /// Takes all positions away, and keeps the memory that they had, with the room for more. What
+    /// the words held stays there, and is cleared where a position is given again. Out of line,
+    /// since many an arena that starts anew had none.
     #[inline(never)]
     pub(crate) fn clear(&mut self)
-        ensures { (word : ℕ) → place_at self.new word ≡ 0 }
+        ensures { (word : ℕ) → position_at self.new word ≡ 0 }
     {
-        self.places.clear();
+        self.positions.clear();
         self.given = 0;
-        self.ready = self.places.spare().min(self.list.words() / STRETCH);
+        self.ready = self.positions.spare().min(self.list.words() / STRETCH);
     }
 
     /// Returns for how many stretches there is memory, and how many pages of words are in it.
     pub(crate) fn sizes(&self) -> (usize, usize) {
-        (self.places.capacity(), self.list.stored())
+        (self.positions.capacity(), self.list.stored())
     }
 
     /// Makes room for a run of n words, and for more where many blocks are to come; the words stay.
@@ -97,7 +97,7 @@ impl Words {
         self.make_room(alloc, more.max(least))
     }
 
-    /// Makes room for so many places more; the words stay.
+    /// Makes room for so many positions more; the words stay.
     #[inline(never)]
     fn make_room(&mut self, alloc: Global, more: usize) -> Result<(), AllocError>
         requires { more < 2 ^ 55 }
@@ -105,7 +105,7 @@ impl Words {
         ensures stay { StayWords self.old self.new }
     {
         self.ready = 0;
-        self.places.reserve(alloc, more)?;
+        self.positions.reserve(alloc, more)?;
         let given = self.given + more;
         self.list.reserve(alloc, STRETCH.saturating_mul(given))?;
         self.ready = more;
@@ -116,12 +116,12 @@ impl Words {
     pub(crate) fn read(&self, word: u64) -> u64
         ensures { result ≡ value_at self.now word }
     {
-        let place = self.places.get(word as usize / STRETCH);
-        if place == 0 {
+        let position = self.positions.get(word as usize / STRETCH);
+        if position == 0 {
             return 0;
         }
         self.list
-            .read((place - 1) * STRETCH + word as usize % STRETCH)
+            .read((position - 1) * STRETCH + word as usize % STRETCH)
     }
 
     /// Writes a word that is there.
@@ -129,9 +129,9 @@ impl Words {
         requires { IsThere self.old word }
         ensures { Writes self.old word value self.new }
     {
-        let place = self.places.get(word as usize / STRETCH);
+        let position = self.positions.get(word as usize / STRETCH);
         self.list
-            .write((place - 1) * STRETCH + word as usize % STRETCH, value);
+            .write((position - 1) * STRETCH + word as usize % STRETCH, value);
     }
 
     /// Opens a run of n words, which are there and 0 then, in room that there is. Most runs lie in
@@ -166,17 +166,17 @@ impl Words {
         let end = from + n as usize;
         let first = from / STRETCH;
         let past = end.div_ceil(STRETCH);
-        if self.list.is_blank() && self.places.has_all(first, past) {
+        if self.list.is_blank() && self.positions.has_all(first, past) {
             return;
         }
-        if self.places.has_none(first, past) {
+        if self.positions.has_none(first, past) {
             self.give(first, past);
         } else {
             for stretch in first..past {
                 self.open_in(stretch, from, end);
             }
         }
-        self.places.note(first, past);
+        self.positions.note(first, past);
     }
 
     /// Opens the words from a start up to an end that lie in a stretch.
@@ -190,23 +190,23 @@ impl Words {
         ensures opens { OpensIn self.old stretch start end self.new }
         ensures room { self.old.ready ≤ self.new.ready + 1 }
     {
-        let place = self.places.get(stretch);
-        if place == 0 {
+        let position = self.positions.get(stretch);
+        if position == 0 {
             self.give(stretch, stretch + 1);
             return;
         }
-        let base = (place - 1) * STRETCH;
+        let base = (position - 1) * STRETCH;
         let first = start.saturating_sub(STRETCH * stretch);
         let last = (end - STRETCH * stretch).min(STRETCH);
         self.list.clear(base + first, base + last);
     }
 
-    /// Gives the next places to stretches from one up to another, which have none; their words are
-    /// 0.
+    /// Gives the next positions to stretches from one up to another, which have none; their words
+    /// are 0.
     #[inline(never)]
     fn give(&mut self, first: usize, past: usize)
         requires order { first ≤ past }
-        requires none { (stretch : ℕ) → first ≤ stretch → stretch < past → place_of self.old.places stretch ≡ 0 }
+        requires none { (stretch : ℕ) → first ≤ stretch → stretch < past → position_of self.old.positions stretch ≡ 0 }
         requires within { past ≤ 65536 }
         requires room { past - first ≤ self.old.ready }
         ensures here { (word : ℕ) → first ≤ word / 2048 → word / 2048 < past → IsThere self.new word }
@@ -215,11 +215,11 @@ impl Words {
         ensures room { self.old.ready ≤ self.new.ready + (past - first) }
     {
         let count = past - first;
-        let place = self.given + 1;
+        let position = self.given + 1;
         let base = self.given * STRETCH;
         self.list.clear(base, base + count * STRETCH);
         self.given += count;
         self.ready -= count;
-        self.places.put(first, past, place);
+        self.positions.put(first, past, position);
     }
 }

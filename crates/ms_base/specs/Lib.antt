@@ -1,4 +1,4 @@
--- words, sizes and places
+-- words, sizes and parts
 pub mod Interval
 pub mod Level
 pub mod Part

@@ -73,12 +73,12 @@ pub record Change : Type 0 where
 
 -- One chunk grows in place.
 pub record GrowsOne (old new : Change) : Type 0 where
-  pub place : ℕ
+  pub index : ℕ
   pub was : Chunk
   pub is : Chunk
-  pub found : slice_get old.chunks place ≡ Some was
+  pub found : slice_get old.chunks index ≡ Some was
   pub grown : IsGrown was is
-  pub chunks : new.chunks ≡ slice_set old.chunks place is
+  pub chunks : new.chunks ≡ slice_set old.chunks index is
   pub slots : new.slots ≡ old.slots
 
 -- One chunk is added last, in a reserved slot or in one that is reserved for it.

@@ -29,9 +29,9 @@ none_later some first class none from =
 pub is_next : (some class : ℕ) → 0 < some / 2 ^ (class + 1) → some < 2 ^ 64
     → IsNextClass some class (class + 1 + trailing_zeros w64 (some / 2 ^ (class + 1)))
 is_next some class more fits = record {
-  within = elim (cases_lt (class + 1 + place) 64) [
+  within = elim (cases_lt (class + 1 + position) 64) [
     | inl low ↦ low
-    | inr high ↦ absurd (omega (arith, one, bit_at_above some 64 (class + 1 + place) fits high))
+    | inr high ↦ absurd (omega (arith, one, bit_at_above some 64 (class + 1 + position) fits high))
   ];
   from = omega arith;
   past = λ other from under. bit_from some (class + 1) other (omega (arith, from))
@@ -42,14 +42,14 @@ is_next some class more fits = record {
     later : ℕ
     later = some / 2 ^ (class + 1)
 
-    place : ℕ
-    place = trailing_zeros w64 later
+    position : ℕ
+    position = trailing_zeros w64 later
 
-    lies : (place < 64) × (bit_at later place ≡ 1) × ((i : ℕ) → i < place → bit_at later i ≡ 0)
+    lies : (position < 64) × (bit_at later position ≡ 1) × ((i : ℕ) → i < position → bit_at later i ≡ 0)
     lies = bit_at-trailing_zeros w64 later more (omega (arith, fits, shr_le some (class + 1)))
 
-    one : bit_at some (class + 1 + place) ≡ 1
-    one = sym (bit_moved some (class + 1) place) ∙ lies.1
+    one : bit_at some (class + 1 + position) ≡ 1
+    one = sym (bit_moved some (class + 1) position) ∙ lies.1
 
 pub bit_others : (some class other : ℕ) → class < 64 → some < 2 ^ 64 → other ≢ class
     → bit_at (bit_and some (bit_not w64 (1 * 2 ^ class % 2 ^ 64))) other ≡ bit_at some other

@@ -93,7 +93,7 @@ fn take_at<A: Allocator>(
     let Some(found) = take_fit(&mut trees[class], words, &mut false) else {
         return None;
     };
-    *some = told_again(*some, class, trees[class].is_empty());
+    *some = noted_anew(*some, class, trees[class].is_empty());
     Some(found)
 }
 
@@ -111,7 +111,7 @@ fn next_class(some: u64, class: usize) -> Option<usize>
 }
 
 /// Returns which trees have a block, once one that had some has none, or has some still.
-fn told_again(some: u64, class: usize, is_empty: bool) -> u64
+fn noted_anew(some: u64, class: usize, is_empty: bool) -> u64
     requires within { class < 64 }
     requires one { bit_at some class ≡ 1 }
     ensures here { bit_at result class ≡ cond is_empty 0 1 }

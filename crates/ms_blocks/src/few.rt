@@ -2,8 +2,8 @@
 //!
 //!     | (20, 4) | (40, 4) | (0, 10) |  room  |       (start, words)
 //!
-//! A block goes where it ranks, and the best fit is the first that is large enough: both places are
-//! found by halving. Neither takes memory.
+//! A block goes where it ranks, and the best fit is the first that is large enough: both positions
+//! are found by halving. Neither takes memory.
 ghost use Rattle.std.specs.Prelude.{◌≡◌, ◌+◌, ◌<◌, ◌≤◌, IsSome, vec_len, vec_capacity};
 ghost use Rattle.ms_blocks.specs.Rank.{IsRanked, first_fit, with_ranked, without_fit};
 

@@ -75,7 +75,7 @@ pub fn take<A: Allocator>(store: &mut Store<A>, words: u64) -> Option<Block>
         Store::Many { trees, some, spare } => {
             let fork = take_in(trees.as_mut_slice(), some, words)?;
             let block = fork.block;
-            // The fork left a place free when it was added.
+            // The fork left a slot free when it was added.
             match spare.push(fork) {
                 Ok(()) => Some(block),
                 Err(_) => unreachable!(),
@@ -152,7 +152,7 @@ fn many_of<A: Allocator + Clone>(
     Ok(store)
 }
 
-/// Fills up to so many spare forks, with places for those of the trees, of which the count is
+/// Fills up to so many spare forks, with slots for those of the trees, of which the count is
 /// given. A refusal leaves what was made.
 fn fill<A: Allocator + Clone>(
     spare: &mut Vec<Box<Fork<A>, A>, A>,
@@ -160,12 +160,12 @@ fn fill<A: Allocator + Clone>(
     count: usize,
 ) -> Result<(), AllocError>
     ensures filled { OnOk result (room ≤ vec_len spare.new) }
-    ensures places { OnOk result (vec_len spare.new + count ≤ vec_capacity spare.new) }
+    ensures slots { OnOk result (vec_len spare.new + count ≤ vec_capacity spare.new) }
     ensures longer { vec_len spare.old ≤ vec_len spare.new }
     ensures stay { vec_len spare.old + count ≤ vec_capacity spare.old
         → vec_len spare.new + count ≤ vec_capacity spare.new }
 {
-    // All places first, so that what can't be had is refused at once.
+    // All slots first, so that what can't be had is refused at once.
     let more = room.saturating_sub(spare.len());
     spare.reserve(more.saturating_add(count))?;
     for _ in 0..more {

@@ -1,5 +1,5 @@
 -- What the calls of a tree do to what is kept true of it: the bits tell which leaf is meant, and
--- the places follow.
+-- the entries follow.
 use Rattle.std.proofs.Common.{◌≡◌, ◌<◌, ◌≤◌, ℕ, ◌+◌, ◌*◌, ◌-◌, ◌/◌, ◌%◌, ◌^◌, Bool, true, false, List, [], ◌∷◌, Option}
 use Rattle.std.proofs.Common.{Some, None, refl, sym, ap, subst, ◌∙◌, arith}
 use Rattle.std.specs.Prelude.{◌==◌, ◌&&◌, ◌||◌, nat_le, nat_lt}
@@ -11,13 +11,13 @@ use Rattle.std.proofs.Math.Nat.{mul-mod_left}
 use Rattle.ms_base.specs.declared.span.Span.{Span}
 use Rattle.ms_base.specs.Interval.{lies_in}
 use Rattle.ms_base.specs.Level.{size_of, highest_level}
-use Rattle.ms_buddy.specs.declared.places.Lending.{Lending}
+use Rattle.ms_buddy.specs.declared.entries.Lending.{Lending}
 use Rattle.ms_buddy.specs.Counts.{holder_of, number_of, one_at}
 use Rattle.ms_buddy.specs.FreeBits.{AreFreeBits, bit_of}
 use Rattle.ms_buddy.specs.Leaves.{covers, fits_in, is_lent, is_same, span_at, span_of}
 use Rattle.ms_buddy.specs.Leaves.{words_of}
-use Rattle.ms_buddy.specs.Places.{leaf_from, lending_at, lent_from}
-use Rattle.ms_buddy.specs.Tree.{Node, Free, Lent, Split, IsPlace, IsSplit, IsTree, MayBeLent, free_in, lent_in}
+use Rattle.ms_buddy.specs.Entries.{leaf_from, lending_at, lent_from}
+use Rattle.ms_buddy.specs.Tree.{Node, Free, Lent, Split, IsRootPart, IsSplit, IsTree, MayBeLent, free_in, lent_in}
 use Rattle.ms_buddy.proofs.TreeHalvesLemmas.{size_of-some}
 use Rattle.ms_buddy.proofs.bits.BuddyLemmas.{number_of-holder, past}
 use Rattle.ms_buddy.proofs.changes.CarveLemmas.{ends_in}
@@ -25,14 +25,14 @@ use Rattle.ms_buddy.proofs.changes.CarvedLemmas.{Carved, carved}
 use Rattle.ms_buddy.proofs.counts.CountLemmas.{number-one}
 use Rattle.ms_buddy.proofs.searches.CoverLemmas.{found_free, free_or_lent, it_covers, left, right, same}
 use Rattle.ms_buddy.proofs.bits.FreeBitLemmas.{free_by_bit, listed}
-use Rattle.ms_buddy.proofs.bits.FreeNumberLemmas.{free_places, root_place}
-use Rattle.ms_buddy.proofs.bits.NumberLemmas.{holder_fits, holder_place, number_below}
-use Rattle.ms_buddy.proofs.PlaceLemmas.{is_there}
+use Rattle.ms_buddy.proofs.bits.FreeNumberLemmas.{free_spans, root_part}
+use Rattle.ms_buddy.proofs.bits.NumberLemmas.{holder_fits, holder_part, number_below}
+use Rattle.ms_buddy.proofs.EntryLemmas.{is_there}
 use Rattle.ms_buddy.proofs.bits.TwinLemmas.{none_beside_it}
 
--- A part starts where a place does.
-pub at_place : (level at : ℕ) → level ≤ highest_level → at % size_of level ≡ 0 → 128 * (at / 128) ≡ at
-at_place level at low aligned = omega (arith, whole)
+-- A part starts where an entry does.
+pub at_entry : (level at : ℕ) → level ≤ highest_level → at % size_of level ≡ 0 → 128 * (at / 128) ≡ at
+at_entry level at low aligned = omega (arith, whole)
   where
     rows : ℕ
     rows = 2 ^ (12 - level)
@@ -72,7 +72,7 @@ pub holder_listed : (node : Node) (words : List ℕ) (part : Span) (free : ℕ) 
     → free ≤ highest_level → bit_of words (number_of (span_at part.start free)) ≡ 1
     → list_any (is_same (holder_of free part)) (free_in 0 0 node) ≡ true
 holder_listed node words part free is low set =
-    sym (free_by_bit node words (holder_of free part) is.tree is.marked (holder_place free part low is.in_root))
+    sym (free_by_bit node words (holder_of free part) is.tree is.marked (holder_part free part low is.in_root))
     ∙ is_one _ (ap (bit_of words) (sym (number_of-holder free part low is.in_root)) ∙ set)
 
 pub holder_covers : (part : Span) (free : ℕ) → covers part.start (holder_of free part) ≡ true
@@ -95,11 +95,11 @@ lies_in_holder : (node : Node) (words : List ℕ) (part : Span) (free : ℕ) →
     → lies_in (words_of part) (words_of (holder_of free part)) ≡ true
 lies_in_holder node words part free is order =
     within (part.start - part.start % size_of free) (size_of free) part.start (size_of part.level) (omega arith)
-    (ends_in part free (part.start - part.start % size_of free) (is.low, is.aligned) (place.level_fits, place.aligned) order
+    (ends_in part free (part.start - part.start % size_of free) (is.low, is.aligned) (of_root.level_fits, of_root.aligned) order
     (omega arith) (past part.start (size_of free) (size_of-some free)))
   where
-    place : IsPlace free (part.start - part.start % size_of free)
-    place = holder_place free part (omega (arith, order, is.low)) is.root.in_root
+    of_root : IsRootPart free (part.start - part.start % size_of free)
+    of_root = holder_part free part (omega (arith, order, is.low)) is.root.in_root
 
     within : (a s b t : ℕ) → a ≤ b → b + t ≤ a + s → (nat_le a b && nat_le (b + t) (a + s)) ≡ true
     within a s b t h k = grind (arith, nat_tests)
@@ -123,7 +123,7 @@ fits_there node words part free is order any =
 may_be : (node : Node) (words : List ℕ) (part : Span) (front : ℕ) → IsAsked node words part → 0 < front
     → front ≤ size_of part.level → MayBeLent 0 0 part front
 may_be node words part front is some within = record {
-  place = root_place;
+  of_root = root_part;
   is_part = (is.low, is.aligned);
   inside = record {
     low = omega arith;
@@ -138,18 +138,18 @@ may_be node words part front is some within = record {
 was_listed : (node : Node) (words : List ℕ) (part : Span) (owner front : ℕ) → IsAsked node words part
     → (c : Carved 0 0 part owner front node) → list_any (is_same (holder_of c.free part)) (free_in 0 0 node) ≡ true
 was_listed node words part owner front is c =
-    sym (listed (holder_of c.free part) (free_in 0 0 node) place (free_places 0 0 node is.root.tree root_place))
+    sym (listed (holder_of c.free part) (free_in 0 0 node) of_root (free_spans 0 0 node is.root.tree root_part))
     ∙ some _ (omega (
       arith,
-      c.parted.places (number_of (holder_of c.free part)),
+      c.parted.numbered (number_of (holder_of c.free part)),
       number-one (number_of (holder_of c.free part)) (holder_of c.free part),
       own (number_of (holder_of c.free part)),
       none_beside_it c.free (number_of (holder_of c.free part)) part c.parted.order c.parted.low is.root.in_root
-          (number_below c.free (part.start - part.start % size_of c.free) place),
+          (number_below c.free (part.start - part.start % size_of c.free) of_root),
     ))
   where
-    place : IsPlace c.free (part.start - part.start % size_of c.free)
-    place = holder_place c.free part (omega (arith, c.parted.order, c.parted.low)) is.root.in_root
+    of_root : IsRootPart c.free (part.start - part.start % size_of c.free)
+    of_root = holder_part c.free part (omega (arith, c.parted.order, c.parted.low)) is.root.in_root
 
     some : (n : ℕ) → 0 < n → nat_lt 0 n ≡ true
     some n h = grind (arith, nat_tests)
@@ -178,7 +178,7 @@ none_fits node words part is none = false_from_ne_true (fits_in part (free_in 0 
     let c = carved 0 0 node part 0 1 is.root.tree (may_be node words part 1 is (omega arith) (omega (arith, size_of-some part.level)))
     fits in
     contrary _ (sym (free_by_bit node words (holder_of c.free part) is.root.tree is.root.marked
-    (holder_place c.free part (omega (arith, c.parted.order, is.low)) is.root.in_root)))
+    (holder_part c.free part (omega (arith, c.parted.order, is.low)) is.root.in_root)))
     (was_listed node words part 0 1 is c)
     (ap (bit_of words) (sym (number_of-holder c.free part (omega (arith, c.parted.order, is.low)) is.root.in_root))
     ∙ none c.free c.parted.order))
@@ -207,7 +207,7 @@ split_past Free part any some = absurd (starts part.start part.level some any)
 split_past (Lent owner front) part any some = absurd (cc (any))
 split_past (Split lower upper) part any some = tt
 
--- Nothing is lent from the place of a part that lies in a free leaf.
+-- Nothing is lent from the entry of a part that lies in a free leaf.
 pub none_there : (node : Node) (words : List ℕ) (part : Span) (free : ℕ) (entries : List (Option Lending))
     → IsAsked node words part → lent_in 0 0 node ≡ lent_from 0 entries
     → list_any (is_same (holder_of free part)) (free_in 0 0 node) ≡ true → lending_at entries (part.start / 128) ≡ None
@@ -220,6 +220,6 @@ none_there node words part free entries is same any =
           (ap (λ leaves. is_lent leaves (span_of (leaf_from (part.start / 128) lending))) same
           ∙ is_there 0 (part.start / 128) (part.start / 128) entries lending e (omega arith))
           (it_covers (128 * (part.start / 128)) part.start (128 * (part.start / 128) + size_of lending.level)
-          (omega (arith, at_place part.level part.start is.low is.aligned))
-          (omega (arith, at_place part.level part.start is.low is.aligned, size_of-some lending.level))))
+          (omega (arith, at_entry part.level part.start is.low is.aligned))
+          (omega (arith, at_entry part.level part.start is.low is.aligned, size_of-some lending.level))))
     ] refl

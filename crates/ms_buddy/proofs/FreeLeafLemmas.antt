@@ -259,6 +259,6 @@ whole_tree_is_free (Split lower upper) tree e =
     (free_levels 1 (size_of 1) upper)) e)
 
 -- So are those of the node that is kept.
-pub free_of-kept : (lent : List LentLeaf) (places : ℕ) (counts words filled : List ℕ)
-    (kept : IsKept lent places counts words filled) → free_in 0 0 kept.node ≡ free_of lent
-free_of-kept lent places counts words filled kept = sym (free_of-tree kept.node kept.tree.tree) ∙ ap free_of kept.lent_is
+pub free_of-kept : (lent : List LentLeaf) (size : ℕ) (counts words filled : List ℕ)
+    (kept : IsKept lent size counts words filled) → free_in 0 0 kept.node ≡ free_of lent
+free_of-kept lent size counts words filled kept = sym (free_of-tree kept.node kept.tree.tree) ∙ ap free_of kept.lent_is

@@ -8,8 +8,8 @@ use Rattle.ms_buddy.specs.Tree.{Node}
 use Rattle.ms_buddy.specs.Tree.{Free, Lent, Split}
 use Rattle.ms_buddy.specs.FreeBits.{IsKept}
 use Rattle.ms_buddy.specs.Leaves.{LentLeaf, AreInOrder, AreLeaves}
-use Rattle.ms_buddy.specs.Tree.{IsPlace, IsTree, lent_in}
-use Rattle.ms_buddy.proofs.TreeHalvesLemmas.{lower_place, upper_place}
+use Rattle.ms_buddy.specs.Tree.{IsRootPart, IsTree, lent_in}
+use Rattle.ms_buddy.proofs.TreeHalvesLemmas.{lower_part, upper_part}
 use Rattle.ms_buddy.proofs.WalkLemmas.{LeafIn, all_joined, all_weaker, lent_lies_in}
 
 in_order_joined : (middle : ℕ) (xs ys : List LentLeaf)
@@ -41,16 +41,16 @@ lent_in_order level start (Split lower upper) tree =
     (lent_in_order (level + 1) start lower tree.2)
     (lent_in_order (level + 1) (start + size_of (level + 1)) upper tree.3)
 
-lent_parts : (level start : ℕ) (node : Node) → IsTree level node → IsPlace level start
+lent_parts : (level start : ℕ) (node : Node) → IsTree level node → IsRootPart level start
     → AllByRecursion (λ leaf. IsPart leaf.start leaf.level) (lent_in level start node)
-lent_parts level start Free tree place = tt
-lent_parts level start (Lent owner front) tree place = ((place.level_fits, place.aligned), tt)
-lent_parts level start (Split lower upper) tree place =
+lent_parts level start Free tree of_root = tt
+lent_parts level start (Lent owner front) tree of_root = ((of_root.level_fits, of_root.aligned), tt)
+lent_parts level start (Split lower upper) tree of_root =
     all_joined (λ leaf. IsPart leaf.start leaf.level) (lent_in (level + 1) start lower)
     (lent_in (level + 1) (start + size_of (level + 1)) upper)
-    (lent_parts (level + 1) start lower tree.2 (lower_place level start place tree.0))
+    (lent_parts (level + 1) start lower tree.2 (lower_part level start of_root tree.0))
     (lent_parts (level + 1) (start + size_of (level + 1)) upper tree.3
-    (upper_place level start (start + size_of (level + 1)) place tree.0 refl))
+    (upper_part level start (start + size_of (level + 1)) of_root tree.0 refl))
 
 lent_fronts : (level start : ℕ) (node : Node) → IsTree level node
     → AllByRecursion (λ leaf. (0 < leaf.front) × (leaf.front ≤ size_of leaf.level)) (lent_in level start node)
@@ -64,18 +64,18 @@ lent_fronts level start (Split lower upper) tree =
 -- The lent leaves of a tree are parts of the root in order, with fronts that fit.
 pub are_leaves : (node : Node) → IsTree 0 node → AreLeaves (lent_in 0 0 node)
 are_leaves node tree = record {
-  parts = lent_parts 0 0 node tree root_place;
+  parts = lent_parts 0 0 node tree root_part;
   in_root = all_weaker (LeafIn 0 root_words) (λ leaf. leaf.start + size_of leaf.level ≤ root_words)
       (λ leaf lies. lies.to) (lent_in 0 0 node) (lent_lies_in 0 0 node tree);
   fronts = lent_fronts 0 0 node tree;
   in_order = lent_in_order 0 0 node tree;
 }
   where
-    root_place : IsPlace 0 0
-    root_place = record { level_fits = omega arith; aligned = refl; in_root = omega arith }
+    root_part : IsRootPart 0 0
+    root_part = record { level_fits = omega arith; aligned = refl; in_root = omega arith }
 
 -- So what is kept of a root says it of its lent leaves.
-pub kept_leaves : (lent : List LentLeaf) (places : ℕ) (counts words filled : List ℕ)
-    → IsKept lent places counts words filled → AreLeaves lent
-kept_leaves lent places counts words filled kept =
+pub kept_leaves : (lent : List LentLeaf) (size : ℕ) (counts words filled : List ℕ)
+    → IsKept lent size counts words filled → AreLeaves lent
+kept_leaves lent size counts words filled kept =
     subst AreLeaves kept.lent_is (are_leaves kept.node kept.tree.tree)

@@ -9,41 +9,41 @@ use Rattle.std.proofs.lemmas.Bool.Decides.{nat_tests}
 use Rattle.ms_base.specs.declared.span.Span.{Span}
 use Rattle.ms_base.specs.Level.{size_of, highest_level}
 use Rattle.ms_base.proofs.free.HalvesLemmas.{size_falls}
-use Rattle.ms_buddy.specs.declared.places.Lending.{Lending}
+use Rattle.ms_buddy.specs.declared.entries.Lending.{Lending}
 use Rattle.ms_buddy.specs.Counts.{IsParted, buddy_of, holder_of, number_of}
 use Rattle.ms_buddy.specs.FreeBits.{IsKept, bit_of}
 use Rattle.ms_buddy.specs.declared.leaf.Leaf.{Leaf}
 use Rattle.ms_buddy.specs.declared.leaf.Leaf.TheVariants.{Free as FreeLeaf, Lent as LentTo}
 use Rattle.ms_buddy.specs.Leaves.{AreInOrder, IsLeafAt, LendsAt, LentLeaf, can_enlarge, covers, is_lent, span_at}
 use Rattle.ms_buddy.specs.Leaves.{without_leaf}
-use Rattle.ms_buddy.specs.Places.{IsFront, lending_at, lent_from}
+use Rattle.ms_buddy.specs.Entries.{IsFront, lending_at, lent_from}
 use Rattle.ms_buddy.specs.Tree.{Node, IsSplit, IsTree, free_in, lent_in}
 use Rattle.ms_buddy.proofs.TreeHalvesLemmas.{holder_is}
 use Rattle.ms_buddy.proofs.bits.BuddyLemmas.{number_of-holder}
 use Rattle.ms_buddy.proofs.changes.CarvedLemmas.{clash}
 use Rattle.ms_buddy.proofs.searches.CoverLemmas.{covered, found_listed, from_covers, same, to_covers}
 use Rattle.ms_buddy.proofs.bits.FreeBitLemmas.{free_by_bit}
-use Rattle.ms_buddy.proofs.bits.FreeNumberLemmas.{root_place, starts_in_root}
+use Rattle.ms_buddy.proofs.bits.FreeNumberLemmas.{root_part, starts_in_root}
 use Rattle.ms_buddy.proofs.KeptTreeLemmas.{are_leaves}
-use Rattle.ms_buddy.proofs.changes.LeaderLemmas.{buddy_within, leads_of, lent_place, no_root_can}
+use Rattle.ms_buddy.proofs.changes.LeaderLemmas.{buddy_within, leads_of, lent_part, no_root_can}
 use Rattle.ms_buddy.proofs.changes.EnlargedLemmas.{MayBecome}
 use Rattle.ms_buddy.proofs.changes.ReleasedLemmas.{released}
-use Rattle.ms_buddy.proofs.bits.NumberLemmas.{holder_place}
-use Rattle.ms_buddy.proofs.PlaceLemmas.{found_there, is_there}
+use Rattle.ms_buddy.proofs.bits.NumberLemmas.{holder_part}
+use Rattle.ms_buddy.proofs.EntryLemmas.{found_there, is_there}
 use Rattle.ms_buddy.proofs.bits.TwinLemmas.{merge_is}
-use Rattle.ms_buddy.proofs.PlaceChangeLemmas.{AtPlace, at_its_place}
-use Rattle.ms_buddy.proofs.CallLemmas.{at_place, InRoot, holder_covers}
+use Rattle.ms_buddy.proofs.EntryChangeLemmas.{AtEntry, at_its_entry}
+use Rattle.ms_buddy.proofs.CallLemmas.{at_entry, InRoot, holder_covers}
 
 -- What is known of a lent part of a root.
-pub record IsLentIn (lent : List LentLeaf) (places : ℕ) (counts words filled : List ℕ) (entries : List (Option Lending))
+pub record IsLentIn (lent : List LentLeaf) (size : ℕ) (counts words filled : List ℕ) (entries : List (Option Lending))
     (part : Span) : Type 0 where
-  pub kept : IsKept lent places counts words filled
-  pub at : AtPlace entries part
+  pub kept : IsKept lent size counts words filled
+  pub at : AtEntry entries part
   pub root : InRoot kept.node words part
   pub there : IsTrue (is_lent (lent_in 0 0 kept.node) part)
   pub low : part.level ≤ highest_level
 
--- The same of a tree's own places.
+-- The same of a tree's own entries.
 abbrev pub IsLentHere : List (Option Lending) → List ℕ → List ℕ → List ℕ → Span → Type 0
 IsLentHere entries counts words filled part =
     IsLentIn (lent_from 0 entries) (length entries) counts words filled entries part
@@ -57,17 +57,17 @@ lent_here entries counts words filled told part kept same lent =
     let own = subst (λ (leaves : List LentLeaf). IsTrue (is_lent leaves part)) (sym kept.lent_is) there in
     let leaves = are_leaves kept.node kept.tree.tree in record {
       kept = kept;
-      at = at_its_place entries part there;
+      at = at_its_entry entries part there;
       root = record {
         tree = kept.tree.tree;
         marked = kept.tree.marked;
         in_root = starts_in_root part kept.node kept.tree.tree own;
       };
       there = own;
-      low = (lent_place part (lent_in 0 0 kept.node) leaves.parts leaves.in_root own).0.0;
+      low = (lent_part part (lent_in 0 0 kept.node) leaves.parts leaves.in_root own).0.0;
     }
 
--- A place can hold the front of a part, and of its parent, which is twice as large.
+-- An entry can hold the front of a part, and of its parent, which is twice as large.
 pub front_fits : (level front : ℕ) → 0 < front → front ≤ 2 * size_of level → IsFront front
 front_fits level front some within = (some, omega (arith, within, size_falls 0 level (omega arith)))
 
@@ -87,7 +87,7 @@ pub returned : (node : Node) (words : List ℕ) (part : Span) (merge : ℕ) → 
     → bit_of words (buddy_of (number_of (span_at part.start below))) ≡ 1)
     → Returns words part merge node
 returned node words part merge is there low apart merged =
-    let done = released 0 0 node part is.tree root_place there in
+    let done = released 0 0 node part is.tree root_part there in
     let same : done.free ≡ merge = merge_is words node done.after part done.free merge (record {
       tree = done.tree;
       marked = is.marked;
@@ -106,14 +106,14 @@ returned node words part merge is there low apart merged =
       was = done.was;
     }
 
--- A part isn't lent where another level, or nothing, stands at the place where it starts.
+-- A part isn't lent where another level, or nothing, stands at the entry where it starts.
 pub not_lent : (entries : List (Option Lending)) (part : Span)
     → ((lending : Lending) → lending_at entries (part.start / 128) ≡ Some lending → part.level ≡ lending.level → ⊥)
     → is_lent (lent_from 0 entries) part ≡ false
 not_lent entries part other = false_from_ne_true (is_lent (lent_from 0 entries) part) (λ lent.
-    let a = at_its_place entries part lent in other a.lending a.there a.level)
+    let a = at_its_entry entries part lent in other a.lending a.there a.level)
 
--- What stands at a place is lent, and the first leaf that covers an offset in it.
+-- What stands at an entry is lent, and the first leaf that covers an offset in it.
 pub lent_there : (entries : List (Option Lending)) (level start : ℕ) (lending : Lending)
     → AreInOrder (lent_from 0 entries) → lending_at entries (start / 128) ≡ Some lending → lending.level ≡ level
     → 128 * (start / 128) ≡ start → LendsAt (lent_from 0 entries) level start (LentTo lending.owner lending.front)
@@ -124,42 +124,42 @@ lent_there entries level start lending order there same whole =
       λ offset covered. found_there 0 (start / 128) (start / 128) offset entries lending order there (omega arith) covered,
     ))
 
--- The part of a level that holds an offset starts where a place does.
-pub holder_at_place : (level at : ℕ) → level ≤ highest_level → at < 524288
+-- The part of a level that holds an offset starts where an entry does.
+pub holder_at_entry : (level at : ℕ) → level ≤ highest_level → at < 524288
     → 128 * ((at - at % size_of level) / 128) ≡ at - at % size_of level
-holder_at_place level at low below = at_place level (at - at % size_of level) low (holder_place level (span_at at level) low below).aligned
+holder_at_entry level at low below = at_entry level (at - at % size_of level) low (holder_part level (span_at at level) low below).aligned
 
 -- The leaf that covers an offset has a level at which it is free or lent.
-pub some_level : (lent : List LentLeaf) (places : ℕ) (counts words filled : List ℕ)
-    (kept : IsKept lent places counts words filled) (offset : ℕ) → offset < 524288
+pub some_level : (lent : List LentLeaf) (size : ℕ) (counts words filled : List ℕ)
+    (kept : IsKept lent size counts words filled) (offset : ℕ) → offset < 524288
     → ((level : ℕ) → level ≤ highest_level → bit_of words (number_of (span_at offset level)) ≡ 0)
     → ((level : ℕ) → level ≤ highest_level → is_lent lent (holder_of level (span_at offset level)) ≡ false) → ⊥
-some_level lent places counts words filled kept offset below none free =
-    let c = covered 0 0 kept.node offset kept.tree.tree root_place (omega arith) (omega (arith, below)) in
+some_level lent size counts words filled kept offset below none free =
+    let c = covered 0 0 kept.node offset kept.tree.tree root_part (omega arith) (omega (arith, below)) in
     let same : c.part ≡ holder_of c.part.level (span_at offset c.part.level) =
-    sym (holder_is c.part.level c.part.start (span_at offset c.part.level) c.place
+    sym (holder_is c.part.level c.part.start (span_at offset c.part.level) c.of_root
     (from_covers c.part.start offset _ c.within) (to_covers c.part.start offset (c.part.start + size_of c.part.level) c.within)) in
     elim c.there [
       | inl any ↦ bits (bit_of words (number_of (span_at offset c.part.level)))
-          (free_by_bit kept.node words c.part kept.tree.tree kept.tree.marked c.place) any
+          (free_by_bit kept.node words c.part kept.tree.tree kept.tree.marked c.of_root) any
           (ap (λ (p : Span). bit_of words (number_of p)) same
-          ∙ sym (ap (bit_of words) (number_of-holder c.part.level (span_at offset c.part.level) c.place.level_fits below)))
-          (none c.part.level c.place.level_fits)
+          ∙ sym (ap (bit_of words) (number_of-holder c.part.level (span_at offset c.part.level) c.of_root.level_fits below)))
+          (none c.part.level c.of_root.level_fits)
       | inr any ↦ clash _ (ap (λ leaves. is_lent leaves c.part) (sym kept.lent_is) ∙ any)
-          (ap (is_lent lent) same ∙ free c.part.level c.place.level_fits)
+          (ap (is_lent lent) same ∙ free c.part.level c.of_root.level_fits)
     ]
   where
     bits : (bit : ℕ) {own : ℕ} {any : Bool} → (own == 1) ≡ any → any ≡ true → own ≡ bit → bit ≡ 0 → ⊥
     bits bit e f g h = grind (arith, nat_tests, e, f, g, h)
 
 -- A lent part that can become its parent may.
-pub may_become : (lent : List LentLeaf) (places : ℕ) (counts words filled : List ℕ) (entries : List (Option Lending))
-    (part : Span) (front : ℕ) (is : IsLentIn lent places counts words filled entries part) → 0 < front
+pub may_become : (lent : List LentLeaf) (size : ℕ) (counts words filled : List ℕ) (entries : List (Option Lending))
+    (part : Span) (front : ℕ) (is : IsLentIn lent size counts words filled entries part) → 0 < front
     → front ≤ 2 * size_of part.level → can_enlarge part (free_in 0 0 is.kept.node) ≡ true
     → MayBecome 0 0 part front is.kept.node
-may_become lent places counts words filled entries part front is some within can = record {
+may_become lent size counts words filled entries part front is some within can = record {
   tree = is.kept.tree.tree;
-  place = root_place;
+  of_root = root_part;
   low = is.low;
   lent = is.there;
   some = some;
@@ -168,13 +168,13 @@ may_become lent places counts words filled entries part front is some within can
 }
 
 -- Its follower starts in the root.
-pub follower_in_root : (lent : List LentLeaf) (places : ℕ) (counts words filled : List ℕ)
-    (entries : List (Option Lending)) (part : Span) (is : IsLentIn lent places counts words filled entries part)
+pub follower_in_root : (lent : List LentLeaf) (size : ℕ) (counts words filled : List ℕ)
+    (entries : List (Option Lending)) (part : Span) (is : IsLentIn lent size counts words filled entries part)
     → can_enlarge part (free_in 0 0 is.kept.node) ≡ true → part.start + size_of part.level < 524288
-follower_in_root lent places counts words filled entries part is can =
+follower_in_root lent size counts words filled entries part is can =
     let leaves = are_leaves is.kept.node is.kept.tree.tree in
     buddy_within part.start part.level (no_root_can part _ can) is.low (leads_of part _ can)
-    (lent_place part (lent_in 0 0 is.kept.node) leaves.parts leaves.in_root is.there).1
+    (lent_part part (lent_in 0 0 is.kept.node) leaves.parts leaves.in_root is.there).1
 
 -- What is said of a leaf that is lent at the part that holds an offset.
 pub lends_there : (lent : List LentLeaf) (free : List Span) (at : Span) (level : ℕ) (leaf : Leaf)

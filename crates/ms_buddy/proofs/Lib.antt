@@ -3,7 +3,7 @@ pub mod WalkLemmas
 pub mod FreeLeafLemmas
 pub mod SplitLemmas
 pub mod changes
-pub mod PlaceLemmas
+pub mod EntryLemmas
 pub mod searches
 pub mod KeptTreeLemmas
 pub mod bits
@@ -12,4 +12,4 @@ pub mod counts
 pub mod CallLemmas
 pub mod LentPartLemmas
 pub mod LendLemmas
-pub mod PlaceChangeLemmas
+pub mod EntryChangeLemmas

@@ -1,4 +1,4 @@
--- Halves of a part: their sizes and places. For the walks down a node.
+-- Halves of a part: their sizes and starts. For the walks down a node.
 use Rattle.std.proofs.Common.{◌≡◌, ◌<◌, ◌≤◌, ℕ, ◌+◌, ◌-◌, ◌*◌, ◌/◌, ◌%◌, ◌^◌, sym, ap, subst, ◌∙◌, arith}
 use Rattle.std.proofs.lemmas.Nat.{pow-add, div-add-mod', mod-mul-add, pow_pos}
 use Rattle.std.proofs.Math.Nat.{mul-mod_left, add-mod_right}
@@ -6,7 +6,7 @@ use Rattle.ms_base.specs.Level.{size_of, highest_level}
 use Rattle.ms_base.specs.declared.span.Span.{Span}
 use Rattle.ms_buddy.specs.Counts.{holder_of}
 use Rattle.ms_buddy.specs.Leaves.{span_at}
-use Rattle.ms_buddy.specs.Tree.{IsPlace}
+use Rattle.ms_buddy.specs.Tree.{IsRootPart}
 
 -- A part has a word.
 pub size_of-some : (level : ℕ) → 0 < size_of level
@@ -32,26 +32,26 @@ halves_divide a h e =
     by_number : (q : ℕ) → a % (h + h) ≡ 0 → q * (h + h) + a % (h + h) ≡ a → a ≡ q * 2 * h
     by_number q e d = omega arith
 
--- The lower half of a place is one.
-pub lower_place : (level start : ℕ) → IsPlace level start → level < highest_level → IsPlace (level + 1) start
-lower_place level start place h = record {
+-- The lower half of a part of the root is one.
+pub lower_part : (level start : ℕ) → IsRootPart level start → level < highest_level → IsRootPart (level + 1) start
+lower_part level start of_root h = record {
   level_fits = omega arith;
   aligned =
       halves_divide start (size_of (level + 1))
-      (subst (λ (x : ℕ). start % x ≡ 0) (sym (size_of-halves level h)) place.aligned);
-  in_root = omega (arith, size_of-halves level h, place.in_root);
+      (subst (λ (x : ℕ). start % x ≡ 0) (sym (size_of-halves level h)) of_root.aligned);
+  in_root = omega (arith, size_of-halves level h, of_root.in_root);
 }
 
 -- So is the upper half.
-pub upper_place : (level start middle : ℕ) → IsPlace level start → level < highest_level
+pub upper_part : (level start middle : ℕ) → IsRootPart level start → level < highest_level
     → middle ≡ start + size_of (level + 1)
-    → IsPlace (level + 1) middle
-upper_place level start middle place h e = record {
+    → IsRootPart (level + 1) middle
+upper_part level start middle of_root h e = record {
   level_fits = omega arith;
   aligned =
       subst (λ (x : ℕ). x % size_of (level + 1) ≡ 0) (sym e)
-      (add-mod_right start (size_of (level + 1)) ∙ (lower_place level start place h).aligned);
-  in_root = omega (arith, size_of-halves level h, place.in_root);
+      (add-mod_right start (size_of (level + 1)) ∙ (lower_part level start of_root h).aligned);
+  in_root = omega (arith, size_of-halves level h, of_root.in_root);
 }
 
 -- A number past a multiple of another by less than that one has it as the multiple below it.
@@ -68,7 +68,7 @@ floor a s w e h k = omega (arith, there ∙ mod-past s (a - s) w e (omega arith)
     there = let back : a ≡ s + (a - s) = omega arith in ap (λ (n : ℕ). n % w) back
 
 -- A part starts in the part of a level that starts there.
-pub holder_is : (level start : ℕ) (part : Span) → IsPlace level start → start ≤ part.start
+pub holder_is : (level start : ℕ) (part : Span) → IsRootPart level start → start ≤ part.start
     → part.start < start + size_of level → holder_of level part ≡ span_at start level
-holder_is level start part place from below =
-    ap (λ (n : ℕ). span_at n level) (floor part.start start (size_of level) place.aligned from below)
+holder_is level start part of_root from below =
+    ap (λ (n : ℕ). span_at n level) (floor part.start start (size_of level) of_root.aligned from below)

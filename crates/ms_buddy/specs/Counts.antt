@@ -55,7 +55,7 @@ pub record IsParted (before : List Span) (leaf part : Span) (after : List Span) 
   pub order : leaf.level ≤ part.level
   pub counts : (other : ℕ) → count_at_level other after + one_at leaf.level other
       ≡ count_at_level other before + one_between leaf.level (part.level + 1) other
-  pub places : (number : ℕ) → count_of_number number after + count_of_number number (leaf ∷ [])
+  pub numbered : (number : ℕ) → count_of_number number after + count_of_number number (leaf ∷ [])
       ≡ count_of_number number before + count_of_number number (beside leaf part)
 
 -- The counts of the levels are those of the parts.

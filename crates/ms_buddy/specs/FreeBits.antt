@@ -6,7 +6,7 @@ use Rattle.ms_buddy.specs.Counts.{AreCounts, beside, count_of_number}
 use Rattle.ms_buddy.specs.Leaves.{LentLeaf}
 use Rattle.ms_buddy.specs.Tree.{Node, IsSplit, IsTree, free_in, lent_in}
 
--- The bit of a number: the one at the place number % 64 of the word number / 64.
+-- The bit of a number: the one at the position number % 64 of the word number / 64.
 abbrev pub bit_of : List ℕ → ℕ → ℕ
 bit_of words number = bit_at (get_or words (number / 64) 0) (number % 64)
 
@@ -26,12 +26,12 @@ pub record IsKeptTree (node : Node) (counts words filled : List ℕ) : Type 0 wh
   pub marked : AreFreeBits words (free_in 0 0 node)
   pub told : IsFilled words filled
 
--- The place is the lowest of a word, from one on, whose bit is set.
-pub record IsLowestBit (word from place : ℕ) : Type 0 where
-  pub low : from ≤ place
-  pub high : place < 64
-  pub set : bit_at word place ≡ 1
-  pub below : (other : ℕ) → from ≤ other → other < place → bit_at word other ≡ 0
+-- The position is the lowest of a word, from one on, whose bit is set.
+pub record IsLowestBit (word from position : ℕ) : Type 0 where
+  pub low : from ≤ position
+  pub high : position < 64
+  pub set : bit_at word position ≡ 1
+  pub below : (other : ℕ) → from ≤ other → other < position → bit_at word other ≡ 0
 
 -- The number is the lowest from one on, and below another, whose bit is set.
 pub record IsNextSet (words : List ℕ) (from end number : ℕ) : Type 0 where
@@ -63,10 +63,10 @@ pub record MayJoin (words : List ℕ) (leaf part : Span) : Type 0 where
       ≤ 1 + count_of_number number (beside leaf part)
 
 -- The root is split in such a way that these leaves are lent; where it is split at all there is a
--- place for each.
-pub record IsKept (lent : List LentLeaf) (places : ℕ) (counts words filled : List ℕ) : Type 0 where
+-- entry for each.
+pub record IsKept (lent : List LentLeaf) (size : ℕ) (counts words filled : List ℕ) : Type 0 where
   pub node : Node
   pub tree : IsKeptTree node counts words filled
   pub lent_is : lent_in 0 0 node ≡ lent
-  pub some : 1 ≤ places
-  pub room : IsSplit node → places ≡ 4096
+  pub some : 1 ≤ size
+  pub room : IsSplit node → size ≡ 4096

@@ -27,7 +27,7 @@ pub record LentLeaf : Type 0 where
 abbrev pub chunk_of : LentLeaf → Chunk
 chunk_of leaf = record { start = leaf.start; level = leaf.level; front = leaf.front }
 
--- The place of the leaf.
+-- The part of the leaf.
 abbrev pub span_of : LentLeaf → Span
 span_of leaf = record { start = leaf.start; level = leaf.level }
 
@@ -110,15 +110,15 @@ abbrev pub with_leaf : LentLeaf → List LentLeaf → List LentLeaf
 with_leaf added [] = added ∷ []
 with_leaf added (leaf ∷ lent) = cond (nat_lt leaf.start added.start) (leaf ∷ with_leaf added lent) (added ∷ leaf ∷ lent)
 
--- All but the leaf of that place.
+-- All but the leaf of that part.
 abbrev pub without_leaf : Span → List LentLeaf → List LentLeaf
 without_leaf part lent = filter (λ leaf. not (is_same part (span_of leaf))) lent
 
--- The leaf of that place has another front.
+-- The leaf of that part has another front.
 abbrev pub with_front : Span → ℕ → List LentLeaf → List LentLeaf
 with_front part front lent = map (λ leaf. cond (is_same part (span_of leaf)) (record leaf { front = front }) leaf) lent
 
--- The leaf of that place becomes its parent, with another front.
+-- The leaf of that part becomes its parent, with another front.
 abbrev pub with_parent : Span → ℕ → List LentLeaf → List LentLeaf
 with_parent part front lent =
     map (λ leaf. cond (is_same part (span_of leaf)) (record leaf { level = leaf.level - 1; front = front }) leaf) lent

@@ -4,7 +4,7 @@ pub mod Boxes
 pub mod Walk
 pub mod Walks
 pub mod Row
-pub mod Places
+pub mod Entries
 pub mod Laws
 pub mod Counts
 pub mod FreeBits

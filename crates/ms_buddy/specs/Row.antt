@@ -7,7 +7,7 @@ use Rattle.ms_base.specs.Level.{highest_level, size_of}
 use Rattle.ms_buddy.specs.declared.part_walk.Seen.{Seen}
 use Rattle.ms_buddy.specs.declared.part_walk.Seen.TheVariants.{Free, Lent, Split}
 use Rattle.ms_buddy.specs.Leaves.{from_on, span_at}
-use Rattle.ms_buddy.specs.Tree.{IsPlace}
+use Rattle.ms_buddy.specs.Tree.{IsRootPart}
 
 -- The part of a level that starts there shares a word with another.
 abbrev pub Meets : ℕ → ℕ → Span → Type 0
@@ -24,7 +24,7 @@ AreSmaller level start free = AllByRecursion (λ other. Meets level start other 
 -- leaf is larger than such a part that it meets, and no level is below its number in the row.
 abbrev pub IsRow : ℕ → ℕ → List ℕ → ℕ → List Span → Type 0
 IsRow number end [] at free = at ≡ end
-IsRow number end (level ∷ levels) at free = (number ≤ level) × (size_of level ≤ end) × IsPlace level (end - size_of level)
+IsRow number end (level ∷ levels) at free = (number ≤ level) × (size_of level ≤ end) × IsRootPart level (end - size_of level)
     × AreWithin level (end - size_of level) free × IsRow (number + 1) (end - size_of level) levels at free
 
 -- What a visit to a part says of the free leaves from its start on: it is the first of them, or none

@@ -14,8 +14,8 @@ pub data Node : Type 0 where
   Lent : (owner front : ℕ) → Node
   Split : (lower upper : Node) → Node
 
--- A node's place: a part of the root.
-pub record IsPlace (level start : ℕ) : Type 0 where
+-- What a node stands for: a part of the root.
+pub record IsRootPart (level start : ℕ) : Type 0 where
   pub level_fits : level ≤ highest_level
   pub aligned : start % size_of level ≡ 0
   pub in_root : start + size_of level ≤ root_words
@@ -69,9 +69,9 @@ pub record IsInside (level start : ℕ) (part : Span) : Type 0 where
   pub from : start ≤ part.start
   pub to : part.start + size_of part.level ≤ start + size_of level
 
--- In a node at that place the part may be lent with that front.
+-- In a node for that part of the root the part may be lent with that front.
 pub record MayBeLent (level start : ℕ) (part : Span) (front : ℕ) : Type 0 where
-  pub place : IsPlace level start
+  pub of_root : IsRootPart level start
   pub is_part : IsPart part.start part.level
   pub inside : IsInside level start part
   pub some : 0 < front

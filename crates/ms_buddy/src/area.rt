@@ -16,7 +16,7 @@
 //!          |                             free, 0                                   |
 //!
 //! Two bodies meet the contract: `SplitTree` has a box for each half, and takes what is split and
-//! no more; `PartTable` has a bit for each part and a place for each lent one, and serves a pool.
+//! no more; `PartTable` has a bit for each part and an entry for each lent one, and serves a pool.
 //! Only `carve` takes memory. After RootChunkArea in HotSpot's rootChunkArea.hpp, whose body is a
 //! list of chunk headers.
 ghost use Rattle.std.specs.Prelude.{◌≡◌, ◌+◌, ◌*◌, ◌%◌, ◌<◌, ◌≤◌, ◌≢◌, ◌↔◌, List, [], ◌∷◌, Some, Err};

@@ -59,8 +59,8 @@ impl FreeBits {
     {
         let mut at = from;
         while at < end {
-            if let Some(place) = lowest_bit(self.words[at / BITS], at % BITS) {
-                let found = at / BITS * BITS + place;
+            if let Some(position) = lowest_bit(self.words[at / BITS], at % BITS) {
+                let found = at / BITS * BITS + position;
                 return if found < end { Some(found) } else { None };
             }
             at = self.next_filled(at / BITS + 1) * BITS;
@@ -77,8 +77,8 @@ impl FreeBits {
     {
         let mut at = from;
         while at < WORDS {
-            if let Some(place) = lowest_bit(self.filled[at / BITS], at % BITS) {
-                return at / BITS * BITS + place;
+            if let Some(position) = lowest_bit(self.filled[at / BITS], at % BITS) {
+                return at / BITS * BITS + position;
             }
             at = (at / BITS + 1) * BITS;
         }
@@ -188,26 +188,26 @@ impl FreeBits {
     }
 }
 
-/// A word with the bit of a place set, or cleared.
+/// A word with the bit of a position set, or cleared.
 #[inline(always)]
-fn with_bit(word: u64, place: usize, set: bool) -> u64
-    requires { place < 64 }
-    ensures here { bit_at result place ≡ cond set 1 0 }
-    ensures others { (other : ℕ) → other < 64 → other ≢ place → bit_at result other ≡ bit_at word other }
+fn with_bit(word: u64, position: usize, set: bool) -> u64
+    requires { position < 64 }
+    ensures here { bit_at result position ≡ cond set 1 0 }
+    ensures others { (other : ℕ) → other < 64 → other ≢ position → bit_at result other ≡ bit_at word other }
 {
     if set {
-        return word | (1 << place);
+        return word | (1 << position);
     }
-    word & !(1 << place)
+    word & !(1 << position)
 }
 
-/// Finds the lowest set bit of a word from a place on.
+/// Finds the lowest set bit of a word from a position on.
 #[inline(always)]
 fn lowest_bit(word: u64, from: usize) -> Option<usize>
     requires { from < 64 }
-    ensures found { IfSome result (λ place. IsLowestBit word from place) }
+    ensures found { IfSome result (λ position. IsLowestBit word from position) }
     ensures none { IfNone result
-        ((place : ℕ) → from ≤ place → place < 64 → bit_at word place ≡ 0) }
+        ((position : ℕ) → from ≤ position → position < 64 → bit_at word position ≡ 0) }
 {
     let later = word >> from;
     if later == 0 {

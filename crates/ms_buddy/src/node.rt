@@ -14,7 +14,7 @@ ghost use Rattle.ms_base.specs.Part.{IsPart};
 ghost use Rattle.ms_buddy.specs.Boxes.{IsEnlarged, shape_of};
 ghost use Rattle.ms_buddy.specs.Leaves.{IsCarveRefusal, IsLeafAt, can_enlarge, covers, fits_in, is_lent, leaf_of};
 ghost use Rattle.ms_buddy.specs.Leaves.{with_front, with_leaf, with_parent, without_leaf};
-ghost use Rattle.ms_buddy.specs.Tree.{IsInside, IsPlace, IsTree, free_in, free_in_halves, is_free, lent_in};
+ghost use Rattle.ms_buddy.specs.Tree.{IsInside, IsRootPart, IsTree, free_in, free_in_halves, is_free, lent_in};
 ghost use Rattle.ms_buddy.specs.Tree.{lent_in_halves};
 
 use crate::leaf::Leaf;
@@ -55,7 +55,7 @@ impl<A: Allocator> Node<A> {
     /// Answers the leaf that covers the offset, and where it is.
     pub(crate) fn leaf_at(&self, level: u8, start: u64, offset: u64) -> (Span, Leaf)
         requires tree { IsTree level (shape_of self.now) }
-        requires place { IsPlace level start }
+        requires of_root { IsRootPart level start }
         requires from { start ≤ offset }
         requires below { offset < start + size_of level }
         ensures covers { IsTrue (covers offset result.0) }
@@ -85,7 +85,7 @@ impl<A: Allocator> Node<A> {
     /// Changes the front of the leaf of that span.
     pub(crate) fn set_front(&mut self, level: u8, start: u64, span: Span, front: u64)
         requires tree { IsTree level (shape_of self.old) }
-        requires place { IsPlace level start }
+        requires of_root { IsRootPart level start }
         requires lent { IsTrue (is_lent (lent_in level start (shape_of self.old)) span) }
         requires some { 0 < front }
         requires within { front ≤ size_of span.level }
@@ -112,7 +112,7 @@ impl<A: Allocator> Node<A> {
     #[cycle(releasing)]
     pub(crate) fn release(&mut self, level: u8, start: u64, span: Span) -> Span
         requires tree { IsTree level (shape_of self.old) }
-        requires place { IsPlace level start }
+        requires of_root { IsRootPart level start }
         requires lent { IsTrue (is_lent (lent_in level start (shape_of self.old)) span) }
         ensures tree { IsTree level (shape_of self.new) }
         ensures lent { lent_in level start (shape_of self.new)
@@ -144,7 +144,7 @@ impl<A: Allocator> Node<A> {
         front: u64,
     ) -> Result<(), Refusal>
         requires tree { IsTree level (shape_of self.old) }
-        requires place { IsPlace level start }
+        requires of_root { IsRootPart level start }
         requires lent { IsTrue (is_lent (lent_in level start (shape_of self.old)) span) }
         requires some { 0 < front }
         requires within { front ≤ 2 * size_of span.level }
@@ -182,7 +182,7 @@ impl<A: Allocator + Clone> Node<A> {
         owner: u32,
         front: u64,
     ) -> Result<Node<A>, AllocError>
-        requires place { IsPlace level start }
+        requires of_root { IsRootPart level start }
         requires part { IsPart span.start span.level }
         requires inside { IsInside level start span }
         requires some { 0 < front }
@@ -220,7 +220,7 @@ impl<A: Allocator + Clone> Node<A> {
         front: u64,
     ) -> Result<(), Refusal>
         requires tree { IsTree level (shape_of self.old) }
-        requires place { IsPlace level start }
+        requires of_root { IsRootPart level start }
         requires part { IsPart span.start span.level }
         requires inside { IsInside level start span }
         requires some { 0 < front }
@@ -266,7 +266,7 @@ fn enlarge_in_half<A: Allocator>(
     front: u64,
 ) -> Result<Option<u32>, Refusal>
     requires low { level < 12 }
-    requires place { IsPlace level start }
+    requires of_root { IsRootPart level start }
     requires trees { IsTree (level + 1) (shape_of lower.old) × IsTree (level + 1) (shape_of upper.old) }
     requires lent { IsTrue (is_lent (lent_in_halves level start (shape_of lower.old) (shape_of upper.old)) span) }
     requires some { 0 < front }
@@ -308,7 +308,7 @@ fn merged_leader<A: Allocator>(
     span: Span,
 ) -> Result<Option<u32>, Refusal>
     requires low { level < 12 }
-    requires place { IsPlace level start }
+    requires of_root { IsRootPart level start }
     requires trees { IsTree (level + 1) (shape_of lower.now) × IsTree (level + 1) (shape_of upper.now) }
     requires lent { IsTrue (is_lent (lent_in_halves level start (shape_of lower.now) (shape_of upper.now)) span) }
     requires child { span.level ≡ level + 1 }
@@ -348,7 +348,7 @@ fn carve_in_half<A: Allocator + Clone>(
     front: u64,
 ) -> Result<(), Refusal>
     requires low { level < span.level }
-    requires place { IsPlace level start }
+    requires of_root { IsRootPart level start }
     requires trees { IsTree (level + 1) (shape_of lower.old) × IsTree (level + 1) (shape_of upper.old) }
     requires part { IsPart span.start span.level }
     requires inside { IsInside level start span }
@@ -396,7 +396,7 @@ fn release_in_half<A: Allocator>(
     span: Span,
 ) -> Option<Span>
     requires low { level < 12 }
-    requires place { IsPlace level start }
+    requires of_root { IsRootPart level start }
     requires trees { IsTree (level + 1) (shape_of lower.old) × IsTree (level + 1) (shape_of upper.old) }
     requires lent { IsTrue (is_lent (lent_in_halves level start (shape_of lower.old) (shape_of upper.old)) span) }
     ensures trees { IsTree (level + 1) (shape_of lower.new) × IsTree (level + 1) (shape_of upper.new) }

@@ -1,15 +1,15 @@
-//! The splits of one root chunk as bits and places: a bit for each part says whether it is a free
-//! leaf (`free_bits`), and each lent leaf stands at the place of its first word (`places`). The free
+//! The splits of one root chunk as bits and entries: a bit for each part says whether it is a free
+//! leaf (`free_bits`), and each lent leaf stands at the entry of its first word (`entries`). The free
 //! leaves of each level are counted too (`levels`).
 //!
 //! No split stands in memory. By the bits the lowest free leaf of a level is found, and how far a
-//! leaf merges that is released; by the places which leaf is lent, to whom and with which front.
+//! leaf merges that is released; by the entries which leaf is lent, to whom and with which front.
 //!
 //! What each call reads: `is_whole` a bit; `can_enlarge` a bit; `free_count` a count; `free_levels`
 //! the 13 counts; `lowest_free` and `next_free` the bits of one level, 64 at a time, and no more of
-//! these words than have a bit set; `leaf_at` a bit and a place for each level down to the leaf's, 13
-//! of each at most; `set_front` a place; `carve`, `release` and `enlarge` 13 bits and a place at most,
-//! and they change the counts of the levels between. `free_leaves` reads a bit and a place of each
+//! these words than have a bit set; `leaf_at` a bit and an entry for each level down to the leaf's, 13
+//! of each at most; `set_front` an entry; `carve`, `release` and `enlarge` 13 bits and an entry at most,
+//! and they change the counts of the levels between. `free_leaves` reads a bit and an entry of each
 //! part that it visits: the leaves and what is split (`part_walk`). Only `carve` takes memory, once,
 //! where the root is split for the first time; it goes back with the table. After RootChunkArea in
 //! HotSpot's rootChunkArea.hpp, which has a list in place of the bits.
@@ -24,16 +24,16 @@ ghost use Rattle.ms_buddy.specs.Leaves.{LendsAt, has_level, is_lent, is_of, is_o
 ghost use Rattle.ms_buddy.specs.Leaves.{parent_of, root};
 ghost use Rattle.ms_buddy.specs.Leaves.{span_at, with_front, with_leaf, with_parent, without_leaf};
 ghost use Rattle.ms_buddy.specs.Row.{AreWithin, IsSeen};
-ghost use Rattle.ms_buddy.specs.Tree.{IsPlace};
+ghost use Rattle.ms_buddy.specs.Tree.{IsRootPart};
 
 use crate::area::RootChunkArea;
+use crate::entries::{ENTRY, Entries, Entry, Lending, NONE};
 use crate::free_bits::{FreeBits, first_from, number, start_of, start_of_holder};
 use crate::leaf::Leaf;
 use crate::leaves::{FreeLeaves, LeavesOf};
 use crate::levels::{LEVELS, join_counts, levels_of, part_counts};
 use crate::part_walk::Seen;
 use crate::parts::{part, words_of};
-use crate::places::{Lending, NONE, PLACE, Place, Places};
 use ms_base::{Level, ROOT_WORDS, Refusal, Span};
 use std::alloc::Allocator;
 use std::marker::Model;
@@ -42,8 +42,8 @@ use std::marker::Model;
 /// once the root is split. Contracts see the list of its lent leaves, in order of address. After
 /// JEP 387.
 pub struct PartTable<A: Allocator> {
-    /// What is lent from each place on.
-    places: Places<A>,
+    /// What is lent from each entry on.
+    entries: Entries<A>,
     /// How many free leaves there are of each level.
     counts: [u16; LEVELS],
     /// Which parts of the root are free leaves.
@@ -54,7 +54,7 @@ impl<A: Allocator> Drop for PartTable<A> {
     /// Lets its parts go. Written out, so that crates above drop it by a call and see no part.
     fn drop(self) {
         let PartTable {
-            places: _,
+            entries: _,
             counts: _,
             free: _,
         } = self;
@@ -66,13 +66,13 @@ impl<A: Allocator> Model for PartTable<A> {
     ghost use Rattle.ms_buddy.specs.Leaves.{LentLeaf};
     ghost use Rattle.std.specs.Prelude.{length};
     ghost use Rattle.ms_buddy.specs.FreeBits.{IsKept};
-    ghost use Rattle.ms_buddy.specs.Places.{lent_from};
+    ghost use Rattle.ms_buddy.specs.Entries.{lent_from};
 
     ghost Value = { List LentLeaf };
 
-    ghost view = { λ t. lent_from 0 t.places };
+    ghost view = { λ t. lent_from 0 t.entries };
 
-    ghost invariant = { λ t. IsKept (lent_from 0 t.places) (length t.places) t.counts t.free.words t.free.filled };
+    ghost invariant = { λ t. IsKept (lent_from 0 t.entries) (length t.entries) t.counts t.free.words t.free.filled };
 }
 
 impl<A: Allocator> PartTable<A> {
@@ -81,7 +81,7 @@ impl<A: Allocator> PartTable<A> {
         ensures { result ≡ [] }
     {
         PartTable {
-            places: Places::new(),
+            entries: Entries::new(),
             counts: [1, 0, 0, 0, 0, 0, 0, 0, 0, 0, 0, 0, 0],
             free: FreeBits::whole(),
         }
@@ -184,7 +184,7 @@ impl<A: Allocator> PartTable<A> {
     /// Looks at a part that starts there, which no larger free leaf meets: at its bit, and at what is
     /// lent from its first word on. Takes no memory.
     pub(crate) fn look(&self, level: u8, start: u64) -> Seen
-        requires place { IsPlace level start }
+        requires of_root { IsRootPart level start }
         requires within { AreWithin level start (free_of self.now) }
         ensures { IsSeen level start (free_of self.now) result }
     {
@@ -208,7 +208,7 @@ impl<A: Allocator> PartTable<A> {
         ensures lent { IfSome result (λ leaf. LendsAt self.now level start leaf) }
         ensures none { IfNone result (IsFalse (is_lent self.now (span_at start level))) }
     {
-        let lending = self.places.get((start / PLACE) as usize)?;
+        let lending = self.entries.get((start / ENTRY) as usize)?;
         if lending.level.number() != level {
             return None;
         }
@@ -227,8 +227,8 @@ impl<A: Allocator> PartTable<A> {
         ensures front { self.new ≡ with_front span front self.old }
         ensures leaves { AreLeaves self.new }
     {
-        self.places
-            .change((span.start / PLACE) as usize, span.level, front as u32);
+        self.entries
+            .change((span.start / ENTRY) as usize, span.level, front as u32);
     }
 
     /// Takes a lent leaf out and answers the free leaf that results: it merges with its buddy for
@@ -243,7 +243,7 @@ impl<A: Allocator> PartTable<A> {
         let start = span.start;
         let lent = span.level.number();
         let free = self.free.merge(lent, start);
-        self.places.put((start / PLACE) as usize, NONE);
+        self.entries.put((start / ENTRY) as usize, NONE);
         join_counts(&mut self.counts, free, lent);
         part(start_of_holder(free, start), free)
     }
@@ -270,8 +270,8 @@ impl<A: Allocator> PartTable<A> {
             return no_room;
         }
         let follower = number(level, start + words_of(level));
-        self.places.change(
-            (start / PLACE) as usize,
+        self.entries.change(
+            (start / ENTRY) as usize,
             Level::new(level - 1),
             front as u32,
         );
@@ -283,7 +283,7 @@ impl<A: Allocator> PartTable<A> {
     /// Lends the part of that level at an offset in words, 0 to 524287, to an owner, with a front
     /// in words from 1 to the part's size. The other lent leaves stay. Refuses with `NoRoom` and
     /// the level where the part does not lie in one free leaf, and with `OutOfMemory` where the
-    /// allocator refuses the table of places, which a root has from the first time on that it is
+    /// allocator refuses the table of entries, which a root has from the first time on that it is
     /// split. A refusal changes nothing. After HotSpot, rootChunkArea.cpp.
     pub fn carve(
         &mut self,
@@ -311,7 +311,7 @@ impl<A: Allocator> PartTable<A> {
         let Some(free) = self.free.holder(lent, at) else {
             return Err(Refusal::NoRoom { level });
         };
-        if self.places.make(alloc, free < lent).is_err() {
+        if self.entries.make(alloc, free < lent).is_err() {
             return Err(Refusal::OutOfMemory);
         }
         let lending = Lending {
@@ -319,7 +319,7 @@ impl<A: Allocator> PartTable<A> {
             owner,
             front: front as u32,
         };
-        self.places.put((at / PLACE) as usize, Place::of(lending));
+        self.entries.put((at / ENTRY) as usize, Entry::of(lending));
         part_counts(&mut self.counts, free, lent);
         self.free.part(free, at, lent);
         Ok(())

@@ -126,8 +126,8 @@ serves_alike Class knows arenas is same its = record {
 pub placed_so : (space : Space) (old : Arenas) (is : ArenaView) (words : ℕ) (answer : Result (Option Block) Refusal)
     → IfOk answer (λ found. Places (arena_in space old) words found is)
     → IfOk answer (λ found. PlacesOwn space words old found (with_arena space old is))
-placed_so space old is words (Ok found) places = record { is = is; places = places; new_is = refl }
-placed_so space old is words (Err refusal) places = tt
+placed_so space old is words (Ok found) placing = record { is = is; placing = placing; new_is = refl }
+placed_so space old is words (Err refusal) placing = tt
 
 -- What an arena without names placed or freed leaves its account as it was.
 placed_alike : (was is : ArenaView) (n : ℕ) (o : Option (ℕ × ArenaState)) (found : Option Block)
@@ -141,10 +141,10 @@ placed_alike was is n None (Some block) at its = absurd its
 
 serves_placed_own : (space : Space) (words : ℕ) (knows : SeatView) (old new : Arenas) (found : Option Block)
     → PlacesOwn space words old found new → ServesArenas knows old → ServesArenas knows new
-serves_placed_own space words knows old new found places its =
-    subst (ServesArenas knows) (sym places.new_is) (serves_alike space knows old places.is
-    (placed_alike (arena_in space old) places.is (block_words words) (placed (arena_in space old).books (block_words words))
-    found refl places.places.1) its)
+serves_placed_own space words knows old new found placing its =
+    subst (ServesArenas knows) (sym placing.new_is) (serves_alike space knows old placing.is
+    (placed_alike (arena_in space old) placing.is (block_words words) (placed (arena_in space old).books (block_words words))
+    found refl placing.placing.1) its)
 
 serves_given : (space : Space) (block : Block) (knows : SeatView) (old new : Arenas) → GivesBlock space old block new
     → ServesArenas knows old → ServesArenas knows new
@@ -164,12 +164,12 @@ serves_bare Class knows arenas is same its =
 serves_placed_bare : (space : Space) (words : ℕ) (knows : SeatView) (old new : BareArenas) (found : Option Block)
     → PlacesBare space words old found new → ServesArenas knows (shown (Bare old))
     → ServesArenas knows (shown (Bare new))
-serves_placed_bare space words knows old new found places its =
+serves_placed_bare space words knows old new found placing its =
     let was = bare_in space old in let n = block_words words in
-    subst (λ (arenas : BareArenas). ServesArenas knows (shown (Bare arenas))) (sym places.new_is)
-    (serves_bare space knows old places.is
-    (placed_alike (arena_with was []) (arena_with places.is (live_with [] found)) n (placed was.books n) found refl
-    (places.places []).1) its)
+    subst (λ (arenas : BareArenas). ServesArenas knows (shown (Bare arenas))) (sym placing.new_is)
+    (serves_bare space knows old placing.is
+    (placed_alike (arena_with was []) (arena_with placing.is (live_with [] found)) n (placed was.books n) found refl
+    (placing.placing []).1) its)
 
 pub serves_given_bare : (space : Space) (block : Block) (knows : SeatView) (old new : BareArenas)
     → GivesBare space old block new → ServesArenas knows (shown (Bare old)) → ServesArenas knows (shown (Bare new))
@@ -179,12 +179,12 @@ serves_given_bare space block knows old new gives its =
 
 serves_placed : (space : Space) (words : ℕ) (knows : SeatView) (old new : Hosted) (found : Option Block)
     → PlacesHosted space words old found new → ServesArenas knows (shown old) → ServesArenas knows (shown new)
-serves_placed space words knows (Known old) (Known new) found places its =
-    serves_placed_own space words knows old new found places its
-serves_placed space words knows (Bare old) (Bare new) found places its =
-    serves_placed_bare space words knows old new found places its
-serves_placed space words knows (Known old) (Bare new) found places its = absurd places
-serves_placed space words knows (Bare old) (Known new) found places its = absurd places
+serves_placed space words knows (Known old) (Known new) found placing its =
+    serves_placed_own space words knows old new found placing its
+serves_placed space words knows (Bare old) (Bare new) found placing its =
+    serves_placed_bare space words knows old new found placing its
+serves_placed space words knows (Known old) (Bare new) found placing its = absurd placing
+serves_placed space words knows (Bare old) (Known new) found placing its = absurd placing
 
 -- And of what they answer.
 pub serves_own : (space : Space) (words : ℕ) (knows : SeatView) (old new : Hosted) (reply : Option Reply)

@@ -2,7 +2,7 @@
 -- file alone names the type that the walks are at.
 use mir.Syntax.{impl, tnil, dnil}
 use Rattle.std.proofs.Common.{◌≡◌, [], refl, subst, Some, None, IsSome, Bool, not, T}
-use denote.Signature.{Slot as Place, plain}
+use denote.Signature.{Slot as Carrier, plain}
 use Rattle.std_alloc.proofs.BoxSteps.Form.{Bx}
 use Rattle.std_heap.specs.contracts.Global as Heap
 use Rattle.std_heap.specs.contracts.GlobalAllocator.TheImpl.{ghosts, dict}
@@ -20,14 +20,14 @@ E = record {
   al = record { row = Heap.the_row; laws = heap.the_row_laws; g = ghosts; d = dict; drops = impl [] tnil dnil };
 }
 
--- The places of a parameter that is the allocator, the parts of a box or a slot.
-abbrev pub FromHeap : Place 0
+-- The carriers of a parameter that is the allocator, the parts of a box or a slot.
+abbrev pub FromHeap : Carrier 0
 FromHeap = plain (λ _. Heap.the_row)
 
-abbrev pub FromParts : Place 0
+abbrev pub FromParts : Carrier 0
 FromParts = plain (λ _. Parts.the_row System.the_row Heap.the_row ghosts)
 
-abbrev pub FromSlot : Place 0
+abbrev pub FromSlot : Carrier 0
 FromSlot = plain (λ _. Slot.the_row)
 
 -- What is there, is some value.

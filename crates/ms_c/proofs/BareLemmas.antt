@@ -18,13 +18,13 @@ use Rattle.ms_base.proofs.entries.EntryLemmas.{Split, split_at, Gap, gap_at}
 use Rattle.ms_pool.specs.Account.{AccountState}
 use Rattle.ms_arena.specs.Arena.{Places}
 use Rattle.ms_arena.specs.Books.{Awaits}
-use Rattle.ms_arena.specs.Raw.{RawView, Gains, FreesRun, IsNewRaw, IsSameRaw, live_with}
+use Rattle.ms_arena.specs.Raw.{RawArenaView, Gains, FreesRun, IsNewRaw, IsSameRaw, live_with}
 use Rattle.ms_c.specs.declared.member.bare.BareArenas.{BareArenas}
 use Rattle.ms_c.specs.Bare.{BareView, bare_of, arena_with, new_bare, MayHave, MayHaveBlock, GainsLive, FreesLive}
 use Rattle.ms_c.specs.Hosted.{bare_in, with_bare, PlacesBare}
 
 -- One that has nothing yet.
-pub new_shows : (account : AccountState) (kind : Kind) (raw : RawView) → account.chunks ≡ [] → IsNewRaw account kind raw
+pub new_shows : (account : AccountState) (kind : Kind) (raw : RawArenaView) → account.chunks ≡ [] → IsNewRaw account kind raw
     → bare_of raw ≡ new_bare account kind
 new_shows account kind raw none its =
     rw (its.owner, its.space, its.kind_is, its.count, its.books, none) refl
@@ -56,7 +56,7 @@ none_there old new start n runs sound awaits = none (named runs start) refl
         let meets = meets_itself start n m awaits.long out.fits.long in absurd (cc (apart, meets))
 
 -- A block comes.
-pub gains_live : (old new : RawView) (block : Block) → Gains old block new
+pub gains_live : (old new : RawArenaView) (block : Block) → Gains old block new
     → GainsLive (bare_of old) block (bare_of new)
 gains_live old new block gains runs may = record {
   sound = subst (IsSound new.books) (sym (gap.made block.words))
@@ -87,26 +87,26 @@ gains_live old new block gains runs may = record {
     awaits = subst (λ (l : List (ℕ × ℕ)). Awaits new.books l run) gap.is (gains.awaits.each runs may.sound)
 
 -- What its calls answer.
-pub gains_placed : (old new : RawView) (answer : Result (Option Block) Refusal)
+pub gains_placed : (old new : RawArenaView) (answer : Result (Option Block) Refusal)
     → IfOk answer (λ found. IfSome found (λ block. Gains old block new))
     → IfOk answer (λ found. IfSome found (λ block. GainsLive (bare_of old) block (bare_of new)))
 gains_placed old new (Ok (Some block)) gains = gains_live old new block gains
 gains_placed old new (Ok None) gains = tt
 gains_placed old new (Err refusal) gains = tt
 
-pub gains_asked : (old new : RawView) (answer : Result Block Refusal) → IfOk answer (λ block. Gains old block new)
+pub gains_asked : (old new : RawArenaView) (answer : Result Block Refusal) → IfOk answer (λ block. Gains old block new)
     → IfOk answer (λ block. GainsLive (bare_of old) block (bare_of new))
 gains_asked old new (Ok block) gains = gains_live old new block gains
 gains_asked old new (Err refusal) gains = tt
 
-pub none_placed : (old new : RawView) (answer : Result (Option Block) Refusal)
+pub none_placed : (old new : RawArenaView) (answer : Result (Option Block) Refusal)
     → IfOk answer (λ found. IfNone found (IsSameRaw old new))
     → IfOk answer (λ found. IfNone found (bare_of new ≡ bare_of old))
 none_placed old new (Ok None) same = ap bare_of same.rest
 none_placed old new (Ok (Some block)) same = tt
 none_placed old new (Err refusal) same = tt
 
-pub stays_bare : {X : Type 0} (old new : RawView) (answer : Result X Refusal) → OnErr answer (IsSameRaw old new)
+pub stays_bare : {X : Type 0} (old new : RawArenaView) (answer : Result X Refusal) → OnErr answer (IsSameRaw old new)
     → OnErr answer (bare_of new ≡ bare_of old)
 stays_bare old new (Err refusal) same = ap bare_of same.rest
 stays_bare old new (Ok x) same = tt
@@ -127,11 +127,11 @@ sound_alone : (arena : ArenaState) (runs : List (ℕ × ℕ)) → IsSound arena 
 sound_alone arena [] sound = sound
 sound_alone arena (run ∷ runs) sound = sound_alone arena runs (live_taken_out arena [] run runs sound).sound
 
-pub record MayFree (raw : RawView) (block : Block) : Type 0 where
+pub record MayFree (raw : RawArenaView) (block : Block) : Type 0 where
   pub some : 0 < raw.count
   pub awaits : Awaits raw.books [] (block.start, block.words)
 
-pub may_free : (raw : RawView) (block : Block) → MayHaveBlock (bare_of raw) block → MayFree raw block
+pub may_free : (raw : RawArenaView) (block : Block) → MayHaveBlock (bare_of raw) block → MayFree raw block
 may_free raw block its = record {
   some = omega (arith, its.may.counted, ap length split.is, length-append split.before (run ∷ split.after));
   awaits = record {
@@ -154,7 +154,7 @@ may_free raw block its = record {
     out : IsTakenOut raw.books (split.before ++ split.after) run
     out = live_taken_out raw.books split.before run split.after (subst (IsSound raw.books) split.is its.may.sound)
 
-pub frees_live : (old new : RawView) (block : Block) → FreesRun old block new
+pub frees_live : (old new : RawArenaView) (block : Block) → FreesRun old block new
     → FreesLive (bare_of old) block (bare_of new)
 frees_live old new block frees = record { after = ap bare_of frees; others = others }
   where
@@ -162,12 +162,12 @@ frees_live old new block frees = record { after = ap bare_of frees; others = oth
         → MayHave (bare_of new) (without runs block.start)
     others runs may found = record {
       sound = subst (λ (books : ArenaState). IsSound books (without runs block.start))
-          (sym (ap (λ (raw : RawView). raw.books) frees))
+          (sym (ap (λ (raw : RawArenaView). raw.books) frees))
           (subst (IsSound (record old.books { kept = _ })) (sym split.gone)
           (sound_with_kept old.books (split.before ++ split.after) run out.fits out.sound));
       counted = omega (
         arith,
-        ap (λ (raw : RawView). raw.count) frees,
+        ap (λ (raw : RawArenaView). raw.count) frees,
         may.counted,
         ap length split.is,
         ap length split.gone,

@@ -39,25 +39,25 @@ same_bare NonClass old = refl
 same_bare Class old = refl
 
 stay_all : (space : Space) (words : ℕ) (old new : Hosted) → PlacesHosted space words old None new → new ≡ old
-stay_all space words (Known old) (Known new) places =
+stay_all space words (Known old) (Known new) placing =
     ap (λ (a : Arenas). Known a)
-    (places.new_is
+    (placing.new_is
     ∙ ap (λ (a : ArenaView). with_arena space old a)
-    (stays_there (arena_in space old) places.is (block_words words) (placed (arena_in space old).books (block_words words))
-    places.places.1)
+    (stays_there (arena_in space old) placing.is (block_words words) (placed (arena_in space old).books (block_words words))
+    placing.placing.1)
     ∙ same_with space old)
-stay_all space words (Bare old) (Bare new) places =
+stay_all space words (Bare old) (Bare new) placing =
     ap (λ (a : BareArenas). Bare a)
-    (places.new_is ∙ ap (λ (a : BareView). with_bare space old a) places.none ∙ same_bare space old)
-stay_all space words (Known old) (Bare new) places = absurd places
-stay_all space words (Bare old) (Known new) places = absurd places
+    (placing.new_is ∙ ap (λ (a : BareView). with_bare space old a) placing.none ∙ same_bare space old)
+stay_all space words (Known old) (Bare new) placing = absurd placing
+stay_all space words (Bare old) (Known new) placing = absurd placing
 
 pub own_answers : (space : Space) (words : ℕ) (old new : Hosted) (answer : Result (Option Block) Refusal)
     → IfOk answer (λ found. PlacesHosted space words old found new) → IfErr answer (λ refusal. PlaceRefused words refusal)
     → OnErr answer (new ≡ old) → AnswersOwn space words old (placed_told answer) new
-own_answers space words old new (Ok (Some made)) places refused same = (made, refl, places)
-own_answers space words old new (Ok None) places refused same = stay_all space words old new places
-own_answers space words old new (Err refusal) places refused same = (refused, same)
+own_answers space words old new (Ok (Some made)) placing refused same = (made, refl, placing)
+own_answers space words old new (Ok None) placing refused same = stay_all space words old new placing
+own_answers space words old new (Err refusal) placing refused same = (refused, same)
 
 -- A member with what it has.
 with_arenas : (old : MemberState) (held : Option HeldState) (arenas : Option Hosted) → old.held ≡ held
@@ -120,7 +120,7 @@ module _ (space : Space) (words : ℕ) (old new : MemberState) where
     found = found;
     alone = alone;
     start_is = its.1;
-    places = its.2;
+    placing = its.2;
     new_is = new_is;
   })
   own_so (Some (Refused refusal)) arenas is found alone new_is its = inr (inl (record {
@@ -229,7 +229,7 @@ module _ (space : Space) (block : Block) (old new : MemberState) where
       → FreesAny space block old.arenas reply is → AnswersGiveBare space block old (Some reply) new
   give_bare_answers reply is new_is its = frees_so reply old.arenas is refl new_is its
 
--- What arenas tell are the sums of the loader; and where they tell none they know no block.
+-- What arenas answer_of are the sums of the loader; and where they answer_of none they know no block.
 pub told_sums : (member : MemberState) (is : Hosted) (totals : Option LoaderTotals) → member.arenas ≡ Some is
     → TellsSums is totals → IfSome totals (AreTheirSums member.arenas member)
 told_sums member is (Some totals) found its =

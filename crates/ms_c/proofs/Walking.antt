@@ -1,4 +1,4 @@
--- The names that the walks of this crate cite, passed on from one place. Declares nothing.
+-- The names that the walks of this crate cite, passed on from one file. Declares nothing.
 pub use Rattle.std.proofs.Common.{◌≡◌, List, [], ◌∷◌, ◌++◌, refl, sym, ap, ◌∙◌, subst}
 pub use Rattle.std.proofs.raw_atomic.Walks.{proved_at}
 pub use Rattle.std.proofs.alloc.Calls.{Goes-blank, handle_tells, token}

@@ -41,7 +41,7 @@ pub record TakesOver (space : Space) (words : ℕ) (held : HeldState) (old : Are
 -- It is placed in the arena's own chunks, or there is no place and nothing changes.
 pub record PlacesOwn (space : Space) (words : ℕ) (old : Arenas) (found : Option Block) (new : Arenas) : Type 0 where
   pub is : ArenaView
-  pub places : Places (arena_in space old) words found is
+  pub placing : Places (arena_in space old) words found is
   pub new_is : new ≡ with_arena space old is
 
 -- A live block of a space is freed; the other arena stays.

@@ -11,7 +11,7 @@ use Rattle.ms_base.specs.Good.{IsSound}
 use Rattle.ms_pool.specs.Account.{AccountState}
 use Rattle.ms_arena.specs.Arena.{ArenaView}
 use Rattle.ms_arena.specs.Alloc.{Allocates}
-use Rattle.ms_arena.specs.Raw.{RawView, live_then}
+use Rattle.ms_arena.specs.Raw.{RawArenaView, live_then}
 use Rattle.ms_shared.specs.SeatView.{HeldState}
 use Rattle.ms_shared.specs.LockCalls.{TookHeld, GrewHeld}
 
@@ -25,7 +25,7 @@ pub record BareView : Type 0 where
   pub count : ℕ
 
 -- What a raw arena shows where words are nobody's matter.
-abbrev pub bare_of : RawView → BareView
+abbrev pub bare_of : RawArenaView → BareView
 bare_of raw = record { owner = raw.owner; space = raw.space; kind = raw.kind; books = raw.books; count = raw.count }
 
 -- Its account, and the arena that it is with these live blocks.

@@ -266,9 +266,9 @@ pub record OpensLoader (kind : Kind) (held now : HeldState) (loader : LoaderView
   pub opened : OpenedBothHeld held (Ok accounts) now
   pub loader_is : loader ≡ new_loader accounts.0 accounts.1 kind
 
--- The granule at a place after the first is committed in a pool.
+-- The granule at an index after the first is committed in a pool.
 abbrev pub granule_at : Ledger → ℕ → ℕ → Bool
-granule_at pool first place = is_among (pool.committed ++ pool.class_committed) (first + place)
+granule_at pool first index = is_among (pool.committed ++ pool.class_committed) (first + index)
 
 -- Of so many granules from the first on, whether each is committed in the pool that the seat has.
 pub record TellsPool (member : MemberState) (first count : ℕ) (bits : List Bool) : Type 0 where

@@ -40,9 +40,9 @@ pub record AreTotals (m : Machine) (totals : Totals) : Type 0 where
   pub space : sums_told totals.space ≡ (sums_of m).space
   pub class_space : sums_told totals.class_space ≡ (sums_of m).class_space
 
--- The granule at a place after the first is committed.
+-- The granule at an index after the first is committed.
 abbrev pub bit_at : Machine → ℕ → ℕ → Bool
-bit_at m first place = is_among (m.committed ++ m.class_committed) (first + place)
+bit_at m first index = is_among (m.committed ++ m.class_committed) (first + index)
 
 -- Of so many granules from the first on, whether each is committed; with no system none is.
 abbrev pub AreBits : Held → ℕ → ℕ → List Bool → Type 0

@@ -140,7 +140,7 @@ pub record PlacesBlock (space : Space) (words start : ℕ) (old new : MemberStat
   pub found : old.arenas ≡ Some arenas
   pub alone : old.held ≡ None
   pub start_is : start ≡ made.start
-  pub places : PlacesHosted space words arenas (Some made) is
+  pub placing : PlacesHosted space words arenas (Some made) is
   pub new_is : new ≡ record old { arenas = Some is }
 
 pub record RefusesWords (words : ℕ) (old : MemberState) (refusal : Refusal) (new : MemberState) : Type 0 where

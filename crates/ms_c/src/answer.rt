@@ -140,7 +140,7 @@ fn refused(refusal: Refusal) -> Answer
 }
 
 /// Returns a reply in numbers.
-pub fn tell(reply: Reply) -> Answer
+pub fn answer_of(reply: Reply) -> Answer
     ensures { result ≡ told reply }
 {
     match reply {
@@ -151,17 +151,17 @@ pub fn tell(reply: Reply) -> Answer
 }
 
 /// Returns a member's reply in numbers, where there is one: else the pool was wanting.
-pub fn tell_seated(reply: Option<Reply>) -> Answer
+pub fn seated_answer(reply: Option<Reply>) -> Answer
     ensures { result ≡ told_by reply }
 {
     match reply {
-        Some(reply) => tell(reply),
+        Some(reply) => answer_of(reply),
         None => Answer::NOT_HELD,
     }
 }
 
 /// Returns in numbers that it was done, or why it was not.
-pub fn tell_done(answer: Result<(), Refusal>) -> Answer
+pub fn done_answer(answer: Result<(), Refusal>) -> Answer
     ensures done { OnOk answer (result ≡ numbers 0 0 0 0) }
     ensures refused { IfErr answer (λ refusal. result ≡ refused_as refusal) }
 {

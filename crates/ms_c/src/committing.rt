@@ -6,9 +6,9 @@ ghost use Rattle.ms_base.specs.Request.{alloc_in};
 ghost use Rattle.ms_c.specs.Answers.{Steps};
 ghost use Rattle.ms_c.specs.Runs.{TellsCommitted};
 
-use crate::answer::{Answer, DONE, tell};
+use crate::answer::{Answer, DONE, answer_of};
 use crate::holding::Handle;
-use crate::runs::{Run, tell_run};
+use crate::runs::{Run, run_of};
 use ms_base::{Reply, Space};
 use std::alloc::Global;
 
@@ -77,9 +77,9 @@ fn allocate(
     handle.put(system);
     match answer {
         Ok(made) => {
-            *out = tell_run(made.run);
+            *out = run_of(made.run);
             Answer::of(made.start)
         }
-        Err(refusal) => tell(Reply::Refused(refusal)),
+        Err(refusal) => answer_of(Reply::Refused(refusal)),
     }
 }

@@ -86,9 +86,9 @@ fn first_from<G: Granules>(granules: &G, was: &[bool], from: usize) -> Option<us
     ensures flagged { IfSome result (λ first. first < length was.now) }
     ensures none { IfNone result (LacksFrom (is_uncommitted was.now (G.commits granules.now)) from) }
 {
-    for place in from..was.len() {
-        if went(granules, was, place) {
-            return Some(place);
+    for index in from..was.len() {
+        if went(granules, was, index) {
+            return Some(index);
         }
     }
     None
@@ -102,18 +102,18 @@ fn end_of_run<G: Granules>(granules: &G, was: &[bool], first: usize) -> usize
         → is_uncommitted was.now (G.commits granules.now) granule ≡ true }
     ensures ends { is_uncommitted was.now (G.commits granules.now) result ≡ false }
 {
-    for place in first..was.len() {
-        if !went(granules, was, place) {
-            return place;
+    for index in first..was.len() {
+        if !went(granules, was, index) {
+            return index;
         }
     }
     was.len()
 }
 
 /// Returns whether a granule was committed by its flag, and is no more.
-fn went<G: Granules>(granules: &G, was: &[bool], place: usize) -> bool
-    requires { place < length was.now }
-    ensures { result ≡ is_uncommitted was.now (G.commits granules.now) place }
+fn went<G: Granules>(granules: &G, was: &[bool], index: usize) -> bool
+    requires { index < length was.now }
+    ensures { result ≡ is_uncommitted was.now (G.commits granules.now) index }
 {
-    was[place] && !granules.has(place as u64)
+    was[index] && !granules.has(index as u64)
 }

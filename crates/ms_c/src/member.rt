@@ -190,7 +190,7 @@ impl Member {
 
     /// Writes of each granule from the first on whether it is committed in the pool, where the seat
     /// has that, and returns whether it has. Takes no memory.
-    pub fn tell_granules(&self, first: u32, out: &mut [bool]) -> bool
+    pub fn put_granules(&self, first: u32, out: &mut [bool]) -> bool
         ensures told { IsTrue result → TellsPool self.now first (length out.old) out.new }
         ensures lacks { IsFalse result → self.now.held ≡ None }
         ensures unchanged { IsFalse result → out.new ≡ out.old }
@@ -221,7 +221,7 @@ impl Member {
 fn write_granules(held: &HeldSeat, first: u32, out: &mut [bool])
     ensures { out.new ≡ map (granule_at held.now.pool first) (range_with_len 0 (length out.old)) }
 {
-    for place in 0..out.len() {
-        out[place] = held.is_committed(u64::from(first) + place as u64);
+    for index in 0..out.len() {
+        out[index] = held.is_committed(u64::from(first) + index as u64);
     }
 }

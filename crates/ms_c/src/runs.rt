@@ -15,7 +15,7 @@ pub struct Run {
 }
 
 /// Returns a run in numbers.
-pub fn tell_run(run: GranuleRun) -> Run
+pub fn run_of(run: GranuleRun) -> Run
     ensures { run_in result ≡ run }
 {
     Run {

@@ -6,7 +6,7 @@ ghost use Rattle.ms_c.specs.Taking.{AnswersNewArenas, AnswersTake, AnswersGive, 
 ghost use Rattle.ms_arena.specs.Arena.{block_at};
 ghost use Rattle.ms_c.specs.Calls.{Calls, MakesArenasAt, IsOwedBy, space_of};
 
-use crate::answer::{Answer, tell_seated};
+use crate::answer::{Answer, seated_answer};
 use crate::kinds::kind_of;
 use crate::seating::Seat;
 use ms_base::{Block, Kind, Space};
@@ -48,7 +48,7 @@ fn new_arenas(alloc: Global, seat: &mut Seat, kind: Kind, is_bare: bool) -> Answ
         Some(mut member) => {
             let reply = member.new_arenas(alloc, kind, is_bare);
             seat.put(member);
-            tell_seated(reply)
+            seated_answer(reply)
         }
     }
 }
@@ -74,7 +74,7 @@ pub extern "C" fn nizgrabul_seat_take(
         Some(mut member) => {
             let reply = member.take(space_in(class_space), words);
             seat.put(member);
-            tell_seated(reply)
+            seated_answer(reply)
         }
     }
 }
@@ -100,7 +100,7 @@ pub extern "C" fn nizgrabul_seat_give(
         Some(mut member) => {
             let reply = member.give(space_in(class_space), Block { start, words });
             seat.put(member);
-            tell_seated(reply)
+            seated_answer(reply)
         }
     }
 }
@@ -126,7 +126,7 @@ pub extern "C" fn nizgrabul_seat_give_bare(
         Some(mut member) => {
             let reply = member.give_bare(space_in(class_space), Block { start, words });
             seat.put(member);
-            tell_seated(reply)
+            seated_answer(reply)
         }
     }
 }

@@ -6,7 +6,7 @@ ghost use Rattle.ms_c.specs.Taking.{AnswersUnloadAny};
 ghost use Rattle.ms_c.specs.Answers.{numbers, not_held};
 ghost use Rattle.ms_c.specs.Calls.{Calls, MakesLoaderAt, PurgesPool};
 
-use crate::answer::{Answer, tell_seated};
+use crate::answer::{Answer, seated_answer};
 use crate::kinds::kind_of;
 use crate::seating::Seat;
 use ms_base::{Kind, Space};
@@ -35,7 +35,7 @@ fn new_loader(alloc: Global, seat: &mut Seat, kind: Kind) -> Answer
         Some(mut member) => {
             let reply = member.new_loader(alloc, kind);
             seat.put(member);
-            tell_seated(reply)
+            seated_answer(reply)
         }
     }
 }
@@ -53,7 +53,7 @@ pub extern "C" fn nizgrabul_seat_unload(alloc: Global, seat: &mut Seat) -> Answe
         Some(mut member) => {
             let reply = member.unload();
             seat.put(member);
-            tell_seated(reply)
+            seated_answer(reply)
         }
     }
 }
@@ -100,7 +100,7 @@ fn allocate(alloc: Global, seat: &mut Seat, space: Space, block: u32, words: u64
         Some(mut member) => {
             let reply = member.allocate(space, block, words);
             seat.put(member);
-            tell_seated(reply)
+            seated_answer(reply)
         }
     }
 }
@@ -117,7 +117,7 @@ pub extern "C" fn nizgrabul_seat_free(alloc: Global, seat: &mut Seat, block: u32
         Some(mut member) => {
             let reply = member.free(block);
             seat.put(member);
-            tell_seated(reply)
+            seated_answer(reply)
         }
     }
 }
@@ -134,13 +134,13 @@ pub extern "C" fn nizgrabul_seat_purge(alloc: Global, seat: &mut Seat) -> Answer
         Some(mut member) => {
             let gone = member.purge();
             seat.put(member);
-            tell_gone(gone)
+            gone_answer(gone)
         }
     }
 }
 
 /// Returns how many nodes went, where the seat had the pool.
-fn tell_gone(gone: Option<u32>) -> Answer
+fn gone_answer(gone: Option<u32>) -> Answer
     ensures some { IfSome gone (λ nodes. result ≡ numbers 0 nodes 0 0) }
     ensures none { IfNone gone (result ≡ not_held) }
 {

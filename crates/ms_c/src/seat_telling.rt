@@ -5,7 +5,7 @@ ghost use Rattle.ms_c.specs.Calls.{TellsGranules, IsAlone, TellsIts, HasNone};
 
 use crate::answer::{DONE, NO_LOADER, NO_SEAT, NOT_HELD};
 use crate::seating::Seat;
-use crate::totals::{LoaderSums, tell_loader};
+use crate::totals::{LoaderSums, loader_sums};
 use std::alloc::Global;
 
 /// Returns the words in use of the seat's loader, with numbers for its blocks or without, in both
@@ -27,7 +27,7 @@ pub extern "C" fn nizgrabul_seat_used(alloc: Global, seat: &mut Seat) -> u64
     }
 }
 
-/// Writes to `out` of each granule from `first` on, as many as it has places, whether it is
+/// Writes to `out` of each granule from `first` on, as many as it has elements, whether it is
 /// committed in the pool that the seat has. Returns DONE; NOT_HELD exactly where the seat doesn't
 /// have the pool, and NO_SEAT, which leave `out` as it was. Takes no memory.
 #[unsafe(no_mangle)]
@@ -48,7 +48,7 @@ pub extern "C" fn nizgrabul_seat_granules(
     let Some(member) = seat.take(alloc) else {
         return NO_SEAT;
     };
-    let has_told = member.tell_granules(first, out);
+    let has_told = member.put_granules(first, out);
     seat.put(member);
     if has_told { DONE } else { NOT_HELD }
 }
@@ -72,7 +72,7 @@ pub extern "C" fn nizgrabul_seat_totals(alloc: Global, seat: &mut Seat, out: &mu
     seat.put(member);
     match totals {
         Some(totals) => {
-            *out = tell_loader(totals);
+            *out = loader_sums(totals);
             DONE
         }
         None => NO_LOADER,

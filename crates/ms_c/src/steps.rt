@@ -2,7 +2,7 @@
 ghost use Rattle.ms_c.specs.Answers.{Steps, MakesLoader, Purges};
 ghost use Rattle.ms_c.specs.Freeing.{FreesBlock};
 
-use crate::answer::{Answer, tell, tell_done};
+use crate::answer::{Answer, answer_of, done_answer};
 use crate::holding::Handle;
 use crate::kinds::kind_of;
 use ms_base::{Block, Step};
@@ -121,7 +121,7 @@ pub extern "C" fn nizgrabul_free_block(
         Some(mut system) => {
             let answer = system.free_block(loader, Block { start, words });
             handle.put(system);
-            tell_done(answer)
+            done_answer(answer)
         }
     }
 }
@@ -152,7 +152,7 @@ fn step(alloc: Global, handle: &mut Handle, step: Step) -> Answer
         Some(mut system) => {
             let reply = system.step(step);
             handle.put(system);
-            tell(reply)
+            answer_of(reply)
         }
     }
 }

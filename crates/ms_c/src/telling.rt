@@ -12,7 +12,7 @@ ghost use Rattle.ms_c.specs.Sums.{AreTotals, AreBits, bit_at, counts_of, TellsLo
 
 use crate::answer::{Answer, DONE, NO_LOADER, NO_SYSTEM, OUT_OF_MEMORY};
 use crate::holding::Handle;
-use crate::totals::{Counts, LoaderSums, Totals, tell_counts, tell_loader, tell_sums};
+use crate::totals::{Counts, LoaderSums, Totals, counts_in, loader_sums, space_sums};
 use ms_loaders::System;
 use std::alloc::Global;
 
@@ -28,7 +28,7 @@ pub extern "C" fn nizgrabul_counts(alloc: Global, handle: &mut Handle, out: &mut
     match handle.take(alloc) {
         None => NO_SYSTEM,
         Some(system) => {
-            *out = tell_counts(system.counts());
+            *out = counts_in(system.counts());
             handle.put(system);
             DONE
         }
@@ -66,13 +66,13 @@ pub extern "C" fn nizgrabul_holder(alloc: Global, handle: &mut Handle, word: u64
         Some(system) => {
             let holder = system.holder(word);
             handle.put(system);
-            tell_holder(holder)
+            holder_answer(holder)
         }
     }
 }
 
 /// Returns a loader's name, where there is one.
-fn tell_holder(holder: Option<u16>) -> Answer
+fn holder_answer(holder: Option<u16>) -> Answer
     ensures some { IfSome holder (λ name. result ≡ numbers 0 name 0 0) }
     ensures none { IfNone holder (result ≡ numbers 8 0 0 0) }
 {
@@ -101,7 +101,7 @@ pub extern "C" fn nizgrabul_is_committed(alloc: Global, handle: &mut Handle, gra
     }
 }
 
-/// Writes to `out` of each granule from `first` on, as many as it has places, whether it is
+/// Writes to `out` of each granule from `first` on, as many as it has elements, whether it is
 /// committed; with no system none is. So a program compares before and after in one call. Takes no
 /// memory.
 #[unsafe(no_mangle)]
@@ -127,8 +127,8 @@ pub extern "C" fn nizgrabul_granules(
 fn write_bits(system: &System, first: u32, out: &mut [bool])
     ensures { out.new ≡ map (bit_at system.now first) (range_with_len 0 (length out.old)) }
 {
-    for place in 0..out.len() {
-        out[place] = system.is_committed(u64::from(first) + place as u64);
+    for index in 0..out.len() {
+        out[index] = system.is_committed(u64::from(first) + index as u64);
     }
 }
 
@@ -152,8 +152,8 @@ pub extern "C" fn nizgrabul_totals(alloc: Global, handle: &mut Handle, out: &mut
         Ok(totals) => {
             *out = Totals {
                 loaders: totals.loaders as u64,
-                space: tell_sums(totals.space),
-                class_space: tell_sums(totals.class_space),
+                space: space_sums(totals.space),
+                class_space: space_sums(totals.class_space),
             };
             DONE
         }
@@ -187,7 +187,7 @@ pub extern "C" fn nizgrabul_loader_totals(
     handle.put(system);
     match answer {
         Some(totals) => {
-            *out = tell_loader(totals);
+            *out = loader_sums(totals);
             DONE
         }
         None => NO_LOADER,

@@ -17,10 +17,10 @@ use std::alloc::Global;
 
 /// Returns the first run of granules, from the granule `from` on, that were committed and are no
 /// more: `was` has a flag for each granule from 0 on, whether it was committed, and granules past its
-/// places were not. `came` is 0, and a run of no granules says that there is none. Asked from 0 on
-/// after an unload or a purge, and then each time from the end of the run before, it returns exactly
-/// the granules that a program gives back. With no system none is committed. Takes no memory, and
-/// visits no granule past the run's end.
+/// elements were not. `came` is 0, and a run of no granules says that there is none. Asked from 0
+/// on after an unload or a purge, and then each time from the end of the run before, it returns
+/// exactly the granules that a program gives back. With no system none is committed. Takes no
+/// memory, and visits no granule past the run's end.
 #[unsafe(no_mangle)]
 pub extern "C" fn nizgrabul_next_uncommitted(
     alloc: Global,

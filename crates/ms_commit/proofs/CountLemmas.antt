@@ -1,4 +1,4 @@
--- Counting the set bits of a word is counting the places of its bits.
+-- Counting the set bits of a word is counting the positions of its bits.
 use Rattle.std.proofs.Common.{◌≡◌, ◌<◌, ◌≤◌, ℕ, zero, suc, ◌+◌, ◌*◌, ◌/◌, ◌%◌, ◌^◌, Bool, true, false, cond, ◌&&◌, List, ◌∷◌}
 use Rattle.std.proofs.Common.{length, get_or, bit_and, refl, sym, ap, ap₂, ◌∙◌, arith}
 use Rattle.std.specs.Prelude.{◌==◌, nat_le, nat_lt}
@@ -11,7 +11,7 @@ use Rattle.std.proofs.lemmas.List.{length-append}
 use Rattle.std.proofs.lemmas.Nat.Bits.{bit_at_lowest, bit_at-suc}
 use Rattle.ms_commit.specs.Mask.{is_one, is_set}
 use Rattle.ms_commit.proofs.RangeLemmas.{and_false, filter-cut, filter_agree_in, filter_none_in, length-filter-below}
-use Rattle.ms_commit.proofs.MaskLemmas.{is_one-and, is_set-place}
+use Rattle.ms_commit.proofs.MaskLemmas.{is_one-and, is_set-position}
 
 pub length-kept : {X : Type 0} (b : Bool) (x : X) (rest : List X)
     → length (cond b (x ∷ rest) rest) ≡ cond b 1 0 + length rest
@@ -42,35 +42,35 @@ no_ones : ones 0 ≡ 0
 unfolding ones
 no_ones = refl
 
--- A word's set bits are counted place by place.
-pub ones_are_counted : (places word : ℕ) → word < 2 ^ places
-    → ones word ≡ length (filter (is_one word) (range_with_len 0 places))
+-- A word's set bits are counted position by position.
+pub ones_are_counted : (positions word : ℕ) → word < 2 ^ positions
+    → ones word ≡ length (filter (is_one word) (range_with_len 0 positions))
 ones_are_counted zero word h = let e : word ≡ 0 = omega arith in ap ones e ∙ no_ones
-ones_are_counted (suc places) word h =
+ones_are_counted (suc positions) word h =
     ones_step word
-    ∙ ap₂ (λ first rest. first + rest) (sym (lowest_counted word)) (ones_are_counted places (word / 2) halved ∙ moved)
-    ∙ sym (length-kept (is_one word 0) 0 (filter (is_one word) (range_with_len 1 places)))
+    ∙ ap₂ (λ first rest. first + rest) (sym (lowest_counted word)) (ones_are_counted positions (word / 2) halved ∙ moved)
+    ∙ sym (length-kept (is_one word 0) 0 (filter (is_one word) (range_with_len 1 positions)))
   where
-    halved : word / 2 < 2 ^ places
-    halved = let e : suc places ≡ places + 1 = omega arith in omega (arith, pow-add 2 places 1, ap (λ n. 2 ^ n) e)
+    halved : word / 2 < 2 ^ positions
+    halved = let e : suc positions ≡ positions + 1 = omega arith in omega (arith, pow-add 2 positions 1, ap (λ n. 2 ^ n) e)
 
     next : (k : ℕ) → bit_at (word / 2) k ≡ bit_at word (1 + k)
     next k = let e : suc k ≡ 1 + k = omega arith in sym (bit_at-suc word k) ∙ ap (bit_at word) e
 
-    moved : length (filter (is_one (word / 2)) (range_with_len 0 places))
-        ≡ length (filter (is_one word) (range_with_len 1 places))
+    moved : length (filter (is_one (word / 2)) (range_with_len 0 positions))
+        ≡ length (filter (is_one word) (range_with_len 1 positions))
     moved =
-        ap length (filter_agree_in (is_one (word / 2)) (λ k. is_one word (1 + k)) 0 places
+        ap length (filter_agree_in (is_one (word / 2)) (λ k. is_one word (1 + k)) 0 positions
         (λ k low high. ap (λ bit. bit == 1) (next k)))
-        ∙ sym (count_moved (is_one word) 1 0 places)
+        ∙ sym (count_moved (is_one word) 1 0 positions)
 
 -- One more word is counted: the bits of a word that stand for numbers that pass.
 pub counted_more : (p : ℕ → Bool) (words : List ℕ) (index run count : ℕ) → run < 2 ^ 64
-    → ((place : ℕ) → place < 64 → is_one run place ≡ p (64 * index + place))
+    → ((position : ℕ) → position < 64 → is_one run position ≡ p (64 * index + position))
     → count ≡ length (filter (λ k. is_set words k && p k) (range_with_len 0 (64 * index)))
     → count + ones (bit_and (get_or words index 0) run)
     ≡ length (filter (λ k. is_set words k && p k) (range_with_len 0 (64 * (index + 1))))
-counted_more p words index run count fits places so_far =
+counted_more p words index run count fits positions so_far =
     ap₂ (λ below here. below + here) so_far
     (ones_are_counted 64 word small ∙ ap length agree ∙ sym (count_moved q (64 * index) 0 64)
     ∙ ap (λ a. length (filter q (range_with_len a 64))) from)
@@ -90,7 +90,7 @@ counted_more p words index run count fits places so_far =
     agree : filter (is_one word) (range_with_len 0 64) ≡ filter (λ k. q (64 * index + k)) (range_with_len 0 64)
     agree = filter_agree_in (is_one word) (λ k. q (64 * index + k)) 0 64
         (λ k low high. is_one-and (get_or words index 0) run k
-        ∙ ap₂ (λ a b. a && b) (sym (is_set-place words index k (omega arith))) (places k (omega arith)))
+        ∙ ap₂ (λ a b. a && b) (sym (is_set-position words index k (omega arith))) (positions k (omega arith)))
 
     from : 64 * index + 0 ≡ 64 * index
     from = omega arith
@@ -98,17 +98,17 @@ counted_more p words index run count fits places so_far =
     next : 64 * index + 64 ≡ 64 * (index + 1)
     next = omega arith
 
--- How many numbers of a range are set, of those below a place.
+-- How many numbers of a range are set, of those below a position.
 abbrev pub set_within : List ℕ → ℕ → ℕ → ℕ → ℕ
-set_within words first end place =
-    length (filter (λ k. is_set words k && (nat_le first k && nat_lt k end)) (range_with_len 0 place))
+set_within words first end position =
+    length (filter (λ k. is_set words k && (nat_le first k && nat_lt k end)) (range_with_len 0 position))
 
 pub none_within : (words : List ℕ) (first end : ℕ) → 0 ≡ set_within words first end (64 * (first / 64))
 none_within words first end =
     ap length (sym (filter_none_in (λ k. is_set words k && (nat_le first k && nat_lt k end)) 0 (64 * (first / 64))
     (λ k low high. and_false (is_set words k) (nat_le first k && nat_lt k end) (grind (arith, nat_tests)))))
 
-pub within_below : (words : List ℕ) (first end place : ℕ) → set_within words first end place ≤ end
-within_below words first end place =
-    length-filter-below (λ k. is_set words k && (nat_le first k && nat_lt k end)) place end
+pub within_below : (words : List ℕ) (first end position : ℕ) → set_within words first end position ≤ end
+within_below words first end position =
+    length-filter-below (λ k. is_set words k && (nat_le first k && nat_lt k end)) position end
     (λ k past. and_false (is_set words k) (nat_le first k && nat_lt k end) (grind (arith, nat_tests)))

@@ -18,60 +18,60 @@ use Rattle.ms_commit.specs.Mask.{is_one, is_set, members_of, IsLowestClear}
 use Rattle.ms_commit.proofs.RangeLemmas.{and_true, and_false, is_among-filter, is_among-range}
 
 -- The bits of two words together.
-pub is_one-and : (a b place : ℕ) → is_one (bit_and a b) place ≡ (is_one a place && is_one b place)
-is_one-and a b place =
-    ap (λ bit. bit == 1) (bit_at_and a b place)
-    ∙ both (bit_at a place) (bit_at b place) (bit_at-lt a place) (bit_at-lt b place)
+pub is_one-and : (a b position : ℕ) → is_one (bit_and a b) position ≡ (is_one a position && is_one b position)
+is_one-and a b position =
+    ap (λ bit. bit == 1) (bit_at_and a b position)
+    ∙ both (bit_at a position) (bit_at b position) (bit_at-lt a position) (bit_at-lt b position)
   where
     both : (x y : ℕ) → x < 2 → y < 2 → (min x y == 1) ≡ ((x == 1) && (y == 1))
     both x y h k = grind (arith, nat_tests)
 
-pub is_one-or : (a b place : ℕ) → is_one (bit_or a b) place ≡ (is_one a place || is_one b place)
-is_one-or a b place =
-    ap (λ bit. bit == 1) (bit_at_or a b place)
-    ∙ some (bit_at a place) (bit_at b place) (bit_at-lt a place) (bit_at-lt b place)
+pub is_one-or : (a b position : ℕ) → is_one (bit_or a b) position ≡ (is_one a position || is_one b position)
+is_one-or a b position =
+    ap (λ bit. bit == 1) (bit_at_or a b position)
+    ∙ some (bit_at a position) (bit_at b position) (bit_at-lt a position) (bit_at-lt b position)
   where
     some : (x y : ℕ) → x < 2 → y < 2 → (max x y == 1) ≡ ((x == 1) || (y == 1))
     some x y h k = grind (arith, nat_tests)
 
-pub is_one-not : (a place : ℕ) → a < 2 ^ 64 → place < 64 → is_one (bit_not w64 a) place ≡ not (is_one a place)
-is_one-not a place fits within =
-    ap (λ bit. bit == 1) (bit_at_not w64 a place fits within) ∙ other (bit_at a place) (bit_at-lt a place)
+pub is_one-not : (a position : ℕ) → a < 2 ^ 64 → position < 64 → is_one (bit_not w64 a) position ≡ not (is_one a position)
+is_one-not a position fits within =
+    ap (λ bit. bit == 1) (bit_at_not w64 a position fits within) ∙ other (bit_at a position) (bit_at-lt a position)
   where
     other : (x : ℕ) → x < 2 → (1 - x == 1) ≡ not (x == 1)
     other x h = grind (arith, nat_tests)
 
 -- `MAX << low & MAX >> 64 - high` has the bits from low up to high.
-pub is_one-between : (low high place : ℕ) → low < high → high ≤ 64 → place < 64
-    → is_one (bit_and ((2 ^ 64 - 1) * 2 ^ low % 2 ^ 64) ((2 ^ 64 - 1) / 2 ^ (64 - high))) place
-    ≡ (nat_le low place && nat_lt place high)
-is_one-between low high place rise within at =
-    is_one-and ((2 ^ 64 - 1) * 2 ^ low % 2 ^ 64) ((2 ^ 64 - 1) / 2 ^ (64 - high)) place
-    ∙ ap₂ (λ a b. is_one a place && is_one b place) (ones_shl 64 low (omega arith))
+pub is_one-between : (low high position : ℕ) → low < high → high ≤ 64 → position < 64
+    → is_one (bit_and ((2 ^ 64 - 1) * 2 ^ low % 2 ^ 64) ((2 ^ 64 - 1) / 2 ^ (64 - high))) position
+    ≡ (nat_le low position && nat_lt position high)
+is_one-between low high position rise within at =
+    is_one-and ((2 ^ 64 - 1) * 2 ^ low % 2 ^ 64) ((2 ^ 64 - 1) / 2 ^ (64 - high)) position
+    ∙ ap₂ (λ a b. is_one a position && is_one b position) (ones_shl 64 low (omega arith))
     (ones_shr 64 (64 - high) (omega arith) ∙ ap (λ n. 2 ^ n - 1) back)
     ∙ ap₂ (λ a b. a && b) from_low below_high
   where
     back : 64 - (64 - high) ≡ high
     back = omega arith
 
-    from_low : is_one (2 ^ 64 - 2 ^ low) place ≡ nat_le low place
-    from_low = elim (cases_lt place low) [
-      | inl under ↦ ap (λ bit. bit == 1) (bit_at_mask_below low 64 place under) ∙ grind (arith, nat_tests)
-      | inr over ↦ ap (λ bit. bit == 1) (bit_at_mask_inside low 64 place over at) ∙ grind (arith, nat_tests)
+    from_low : is_one (2 ^ 64 - 2 ^ low) position ≡ nat_le low position
+    from_low = elim (cases_lt position low) [
+      | inl under ↦ ap (λ bit. bit == 1) (bit_at_mask_below low 64 position under) ∙ grind (arith, nat_tests)
+      | inr over ↦ ap (λ bit. bit == 1) (bit_at_mask_inside low 64 position over at) ∙ grind (arith, nat_tests)
     ]
 
-    below_high : is_one (2 ^ high - 1) place ≡ nat_lt place high
-    below_high = elim (cases_lt place high) [
-      | inl under ↦ ap (λ bit. bit == 1) (bit_at_ones high place under) ∙ grind (arith, nat_tests)
-      | inr over ↦ ap (λ bit. bit == 1) (bit_at_ones_above high place over) ∙ grind (arith, nat_tests)
+    below_high : is_one (2 ^ high - 1) position ≡ nat_lt position high
+    below_high = elim (cases_lt position high) [
+      | inl under ↦ ap (λ bit. bit == 1) (bit_at_ones high position under) ∙ grind (arith, nat_tests)
+      | inr over ↦ ap (λ bit. bit == 1) (bit_at_ones_above high position over) ∙ grind (arith, nat_tests)
     ]
 
--- The numbers of a word are those of its places, moved up.
-pub is_set-place : (words : List ℕ) (index place : ℕ) → place < 64
-    → is_set words (64 * index + place) ≡ is_one (get_or words index 0) place
-is_set-place words index place within =
-    let row : (64 * index + place) / 64 ≡ index = omega arith in
-    let column : (64 * index + place) % 64 ≡ place = omega arith in
+-- The numbers of a word are those of its positions, moved up.
+pub is_set-position : (words : List ℕ) (index position : ℕ) → position < 64
+    → is_set words (64 * index + position) ≡ is_one (get_or words index 0) position
+is_set-position words index position within =
+    let row : (64 * index + position) / 64 ≡ index = omega arith in
+    let column : (64 * index + position) % 64 ≡ position = omega arith in
     ap₂ (λ at spot. is_one (get_or words at 0) spot) row column
 
 -- A word of a mask is changed: its numbers have their bits in the new word, the others as before.
@@ -86,17 +86,17 @@ pub is_set-other : (words : List ℕ) (index word k : ℕ) → k / 64 ≢ index
 is_set-other words index word k elsewhere =
     ap (λ w. is_one w (k % 64)) (get_or-set_other words index (k / 64) word 0 elsewhere)
 
--- One more word of a mask is changed, in the places of numbers that pass.
+-- One more word of a mask is changed, in the positions of numbers that pass.
 pub changed_more : (op : Bool → Bool → Bool) (p : ℕ → Bool) (old new : List ℕ) (index word : ℕ)
     → ((b : Bool) → op b false ≡ b) → index < length new
-    → ((place : ℕ) → place < 64 → is_one word place ≡ op (is_one (get_or new index 0) place) (p (64 * index + place)))
+    → ((position : ℕ) → position < 64 → is_one word position ≡ op (is_one (get_or new index 0) position) (p (64 * index + position)))
     → ((k : ℕ) → k < 64 * length new → is_set new k ≡ op (is_set old k) (p k && nat_lt k (64 * index)))
     → (k : ℕ) → k < 64 * length (slice_set new index word)
     → is_set (slice_set new index word) k ≡ op (is_set old k) (p k && nat_lt k (64 * (index + 1)))
-changed_more op p old new index word stays within places so_far k inside = elim (cases_eq (k / 64) index) [
+changed_more op p old new index word stays within positions so_far k inside = elim (cases_eq (k / 64) index) [
   | inl here ↦
       is_set-here new index word k within here
-      ∙ places (k % 64) (omega arith)
+      ∙ positions (k % 64) (omega arith)
       ∙ ap₂ op (ap (λ at. is_one (get_or new at 0) (k % 64)) (sym here) ∙ so_far k unchanged
       ∙ ap (op (is_set old k)) (and_false (p k) (nat_lt k (64 * index)) (grind (arith, nat_tests)))
       ∙ stays (is_set old k)) (let e : 64 * index + k % 64 ≡ k = omega arith in ap p e)
@@ -149,20 +149,20 @@ pub lowest_in_word : (words : List ℕ) (index : ℕ) → index < length words �
     → ((k : ℕ) → k < 64 * index → is_set words k ≡ true)
     → IsLowestClear words (64 * index + trailing_ones w64 (get_or words index 0))
 lowest_in_word words index within fits before = record {
-  within = omega (arith, place.0);
-  clear = is_set-place words index (trailing_ones w64 word) place.0 ∙ ap (λ bit. bit == 1) place.1;
+  within = omega (arith, position.0);
+  clear = is_set-position words index (trailing_ones w64 word) position.0 ∙ ap (λ bit. bit == 1) position.1;
   below = λ k under. elim (cases_lt k (64 * index)) [
     | inl earlier ↦ before k earlier
     | inr here ↦
         let moved : k ≡ 64 * index + (k - 64 * index) = omega arith in
-        ap (is_set words) moved ∙ is_set-place words index (k - 64 * index) (omega (arith, place.0))
-        ∙ ap (λ bit. bit == 1) (place.2 (k - 64 * index) (omega arith))
+        ap (is_set words) moved ∙ is_set-position words index (k - 64 * index) (omega (arith, position.0))
+        ∙ ap (λ bit. bit == 1) (position.2 (k - 64 * index) (omega arith))
   ];
 }
   where
     word : ℕ
     word = get_or words index 0
 
-    place : (trailing_ones w64 word < 64) × (bit_at word (trailing_ones w64 word) ≡ 0)
+    position : (trailing_ones w64 word < 64) × (bit_at word (trailing_ones w64 word) ≡ 0)
         × ((i : ℕ) → i < trailing_ones w64 word → bit_at word i ≡ 1)
-    place = bit_at-trailing_ones w64 word fits
+    position = bit_at-trailing_ones w64 word fits

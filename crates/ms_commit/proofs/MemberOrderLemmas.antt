@@ -1,4 +1,4 @@
--- Sets in rising order: the place of a new number, and the lowest number that is missing.
+-- Sets in rising order: the position of a new number, and the lowest number that is missing.
 use Rattle.std.proofs.Common.{◌≡◌, ◌≤◌, ◌<◌, ℕ, zero, suc, ◌+◌, ◌-◌, Bool, true, false, cond, ◌||◌, not, List, ◌∷◌}
 use Rattle.std.proofs.Common.{length, Some, refl, sym, ap, ◌∙◌, inl, inr, arith}
 use Rattle.std.specs.Option.{unwrap_or}

@@ -3,11 +3,11 @@ use Rattle.std.specs.Prelude.{◌≡◌, ℕ, ◌*◌, ◌/◌, ◌%◌, ◌<◌
 use Rattle.std.specs.List.{filter, range_with_len}
 use Rattle.std.specs.Int.{bit_at}
 
--- The bit at a place of a word is set.
+-- The bit at a position of a word is set.
 abbrev pub is_one : ℕ → ℕ → Bool
-is_one word place = bit_at word place == 1
+is_one word position = bit_at word position == 1
 
--- The bit of a number is set: the one at the place number % 64 of the word number / 64.
+-- The bit of a number is set: the one at the position number % 64 of the word number / 64.
 abbrev pub is_set : List ℕ → ℕ → Bool
 is_set words number = is_one (slice_index words (number / 64)) (number % 64)
 

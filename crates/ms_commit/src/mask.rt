@@ -138,8 +138,9 @@ impl<const WORDS: usize> Mask<WORDS> {
 /// The bits of a word, whose first has the number `base`, that stand for the numbers from `first`
 /// up to `end`.
 fn bits_between(first: usize, end: usize, base: usize) -> u64
-    ensures { (place : ℕ) → place < 64
-        → is_one result place ≡ (nat_le first (base + place) && nat_lt (base + place) end) }
+    ensures { (position : ℕ) → position < 64
+        → is_one result position
+        ≡ (nat_le first (base + position) && nat_lt (base + position) end) }
 {
     let low = first.saturating_sub(base).min(BITS);
     let high = end.saturating_sub(base).min(BITS);

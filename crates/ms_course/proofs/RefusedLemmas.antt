@@ -69,54 +69,54 @@ counts_kept refusals moments moment none its = record {
 }
 
 -- One that was changes that of its reason.
-pub counts_next : (refusals : List Refused) (place : ℕ) (new d : Refused) (why : Reason) (moments : List Moment)
-    (moment : Moment) → reason_of moment.asked moment.reply ≡ Some why → place ≡ number_of why → place < 12
-    → new ≡ refused_with (get_or refusals place d) moment.line → Counts refusals moments
-    → Counts (slice_set refusals place new) (moments ++ moment ∷ [])
-counts_next refusals place new d why moments moment is at_place within new_is its = record {
-  count = length-set refusals place new ∙ its.count;
-  each = λ number below. each number below (eqb_tells number place);
+pub counts_next : (refusals : List Refused) (index : ℕ) (new d : Refused) (why : Reason) (moments : List Moment)
+    (moment : Moment) → reason_of moment.asked moment.reply ≡ Some why → index ≡ number_of why → index < 12
+    → new ≡ refused_with (get_or refusals index d) moment.line → Counts refusals moments
+    → Counts (slice_set refusals index new) (moments ++ moment ∷ [])
+counts_next refusals index new d why moments moment is at_index within new_is its = record {
+  count = length-set refusals index new ∙ its.count;
+  each = λ number below. each number below (eqb_tells number index);
 }
   where
-    test : (number : ℕ) → is_refused_for number moment ≡ (place == number)
-    test number = ap (is_number number) is ∙ ap (λ (n : ℕ). n == number) (sym at_place)
+    test : (number : ℕ) → is_refused_for number moment ≡ (index == number)
+    test number = ap (is_number number) is ∙ ap (λ (n : ℕ). n == number) (sym at_index)
 
     now : (number : ℕ) → number < 12
-        → slice_get (slice_set refusals place new) number ≡ Some (get_or (slice_set refusals place new) number new)
+        → slice_get (slice_set refusals index new) number ≡ Some (get_or (slice_set refusals index new) number new)
     now number below =
-        slice_get-get_or (slice_set refusals place new) number new
-        (omega (arith, below, length-set refusals place new, its.count))
+        slice_get-get_or (slice_set refusals index new) number new
+        (omega (arith, below, length-set refusals index new, its.count))
 
     was : (number : ℕ) (d : Refused) → number < 12 → get_or refusals number d ≡ refused_for number moments
     was number d below = get_or_from_slice_get refusals number (refused_for number moments) d (its.each number below)
 
-    same_place : (number : ℕ) → number ≡ place → (place == number) ≡ true
-    same_place number same = grind (arith, same)
+    same_index : (number : ℕ) → number ≡ index → (index == number) ≡ true
+    same_index number same = grind (arith, same)
 
-    other_place : (number : ℕ) → number ≢ place → (place == number) ≡ false
-    other_place number other = grind (arith, other)
+    other_index : (number : ℕ) → number ≢ index → (index == number) ≡ false
+    other_index number other = grind (arith, other)
 
     each : (number : ℕ) → number < 12
-        → ((eqb number place ≡ true) × (number ≡ place)) ⊎ ((eqb number place ≡ false) × (number ≢ place))
-        → slice_get (slice_set refusals place new) number ≡ Some (refused_for number (moments ++ moment ∷ []))
+        → ((eqb number index ≡ true) × (number ≡ index)) ⊎ ((eqb number index ≡ false) × (number ≢ index))
+        → slice_get (slice_set refusals index new) number ≡ Some (refused_for number (moments ++ moment ∷ []))
     each number below (inl same) =
         now number below
-        ∙ ap Some (get_or-set_at refusals place number new new same.1 (omega (arith, within, its.count))
+        ∙ ap Some (get_or-set_at refusals index number new new same.1 (omega (arith, within, its.count))
         ∙ new_is
-        ∙ ap (λ (old : Refused). refused_with old moment.line) (was place d within)
+        ∙ ap (λ (old : Refused). refused_with old moment.line) (was index d within)
         ∙ ap (λ (n : ℕ). refused_with (refused_for n moments) moment.line) (sym same.1)
-        ∙ sym (refused_push number moments moment (test number ∙ same_place number same.1)))
+        ∙ sym (refused_push number moments moment (test number ∙ same_index number same.1)))
     each number below (inr other) =
         now number below
-        ∙ ap Some (get_or-set_other refusals place number new new other.1 ∙ was number new below
-        ∙ sym (kept_push number moments moment (test number ∙ other_place number other.1)))
+        ∙ ap Some (get_or-set_other refusals index number new new other.1 ∙ was number new below
+        ∙ sym (kept_push number moments moment (test number ∙ other_index number other.1)))
 
 -- Few of so many are few of one more.
 pub counted_more : (most : ℕ) (refusals : List Refused) → IsCounted most refusals → IsCounted (most + 1) refusals
 counted_more most refusals few = λ k d within. omega (arith, few k d within)
 
-pub counted_next : (most place : ℕ) (refusals : List Refused) (new : Refused) → IsCounted most refusals
-    → new.lines ≤ most + 1 → IsCounted (most + 1) (slice_set refusals place new)
-counted_next most place refusals new few small =
-    All-set (λ (refused : Refused). refused.lines ≤ most + 1) refusals place new small
+pub counted_next : (most index : ℕ) (refusals : List Refused) (new : Refused) → IsCounted most refusals
+    → new.lines ≤ most + 1 → IsCounted (most + 1) (slice_set refusals index new)
+counted_next most index refusals new few small =
+    All-set (λ (refused : Refused). refused.lines ≤ most + 1) refusals index new small
     (counted_more most refusals few)

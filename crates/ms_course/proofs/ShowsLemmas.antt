@@ -24,13 +24,13 @@ few_of_more most column few = record {
   reports = omega (arith, few.reports);
 }
 
-pub filled : (lines answered place : ℕ) (columns : List Column) (new : Column) → IsFilling lines answered columns
-    → answered < lines → AreFew (answered + 1) new → IsFilling lines (answered + 1) (slice_set columns place new)
-filled lines answered place columns new its goes few = record {
+pub filled : (lines answered index : ℕ) (columns : List Column) (new : Column) → IsFilling lines answered columns
+    → answered < lines → AreFew (answered + 1) new → IsFilling lines (answered + 1) (slice_set columns index new)
+filled lines answered index columns new its goes few = record {
   within = omega (arith, goes);
-  count = length-set columns place new ∙ its.count;
+  count = length-set columns index new ∙ its.count;
   few =
-      All-set (AreFew (answered + 1)) columns place new few
+      All-set (AreFew (answered + 1)) columns index new few
       (λ k d within. few_of_more answered (get_or columns k d) (its.few k d within));
 }
 
@@ -39,18 +39,18 @@ abbrev pub view_with : ℕ → ℕ → List Column → ColumnsView
 view_with lines answered columns = record { lines = lines; answered = answered; columns = columns }
 
 -- They show the moment after the next line.
-pub shows_next : (lines answered place : ℕ) (columns : List Column) (new d : Column)
+pub shows_next : (lines answered index : ℕ) (columns : List Column) (new d : Column)
     (moments : List Moment) (moment : Moment) → Shows (view_with lines answered columns) moments → answered < lines
-    → place ≡ column_of lines answered → place < column_count lines
-    → new ≡ with_moment (get_or columns place d) moment
-    → Shows (view_with lines (answered + 1) (slice_set columns place new)) (moments ++ moment ∷ [])
-shows_next lines answered place columns new d moments moment its goes is within new_is =
+    → index ≡ column_of lines answered → index < column_count lines
+    → new ≡ with_moment (get_or columns index d) moment
+    → Shows (view_with lines (answered + 1) (slice_set columns index new)) (moments ++ moment ∷ [])
+shows_next lines answered index columns new d moments moment its goes is within new_is =
     let so_many : answered ≡ length moments = omega (arith, its.answered, goes) in
-    let there : column_of lines (length moments) ≡ place = ap (column_of lines) (sym so_many) ∙ sym is in
+    let there : column_of lines (length moments) ≡ index = ap (column_of lines) (sym so_many) ∙ sym is in
     record {
       answered = omega (arith, length-append moments (moment ∷ []), so_many, goes);
-      count = length-set columns place new ∙ its.count;
-      each = λ column below. at column below there (eqb_tells column place);
+      count = length-set columns index new ∙ its.count;
+      each = λ column below. at column below there (eqb_tells column index);
     }
   where
     was : (d : Column) (column : ℕ) → column < column_count lines
@@ -59,25 +59,25 @@ shows_next lines answered place columns new d moments moment its goes is within 
         get_or_from_slice_get columns column (column_in (falling lines column 0 moments)) d (its.each column below)
 
     now : (column : ℕ) → column < column_count lines
-        → slice_get (slice_set columns place new) column ≡ Some (get_or (slice_set columns place new) column new)
+        → slice_get (slice_set columns index new) column ≡ Some (get_or (slice_set columns index new) column new)
     now column below =
-        slice_get-get_or (slice_set columns place new) column new
-        (omega (arith, below, length-set columns place new, its.count))
+        slice_get-get_or (slice_set columns index new) column new
+        (omega (arith, below, length-set columns index new, its.count))
 
-    at : (column : ℕ) → column < column_count lines → column_of lines (length moments) ≡ place
-        → ((eqb column place ≡ true) × (column ≡ place)) ⊎ ((eqb column place ≡ false) × (column ≢ place))
-        → slice_get (slice_set columns place new) column
+    at : (column : ℕ) → column < column_count lines → column_of lines (length moments) ≡ index
+        → ((eqb column index ≡ true) × (column ≡ index)) ⊎ ((eqb column index ≡ false) × (column ≢ index))
+        → slice_get (slice_set columns index new) column
         ≡ Some (column_in (falling lines column 0 (moments ++ moment ∷ [])))
     at column below there (inl same) =
         now column below
-        ∙ ap Some (get_or-set_at columns place column new new same.1 (omega (arith, within, its.count))
+        ∙ ap Some (get_or-set_at columns index column new new same.1 (omega (arith, within, its.count))
         ∙ new_is
-        ∙ ap (λ (old : Column). with_moment old moment) (was d place within)
-        ∙ sym (its_column lines place moments moment there)
+        ∙ ap (λ (old : Column). with_moment old moment) (was d index within)
+        ∙ sym (its_column lines index moments moment there)
         ∙ ap (λ (k : ℕ). column_in (falling lines k 0 (moments ++ moment ∷ []))) (sym same.1))
     at column below there (inr other) =
         now column below
-        ∙ ap Some (get_or-set_other columns place column new new other.1 ∙ was new column below
+        ∙ ap Some (get_or-set_other columns index column new new other.1 ∙ was new column below
         ∙ sym (other_column lines column moments moment (λ e. other.1 (sym e ∙ there))))
 
 -- A moment past the lines falls into none.

@@ -67,8 +67,8 @@ impl Columns {
         if self.answered == self.lines {
             return;
         }
-        let place = column_for(self.answered, self.lines);
-        add(&mut self.columns[place], moment);
+        let index = column_for(self.answered, self.lines);
+        add(&mut self.columns[index], moment);
         self.answered += 1;
     }
 

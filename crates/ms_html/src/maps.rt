@@ -11,7 +11,7 @@ use crate::replay::Replay;
 use crate::writer::Writer;
 use ms_base::SLOTS;
 use ms_page::CellCounts;
-use ms_pool::{Place, RootMap};
+use ms_pool::{Cell, RootMap};
 
 /// What a map shows.
 const KEY: &str =
@@ -21,22 +21,22 @@ const KEY: &str =
 const CELL_WORDS: u64 = 8192;
 
 /// What a cell may be, in the order of the key.
-const STATES: [Place; 5] = [
-    Place::Free,
-    Place::FreeCommitted,
-    Place::LentUncommitted,
-    Place::LentPartly,
-    Place::LentWholly,
+const STATES: [Cell; 5] = [
+    Cell::Free,
+    Cell::FreeCommitted,
+    Cell::LentUncommitted,
+    Cell::LentPartly,
+    Cell::LentWholly,
 ];
 
 /// Returns the class of a cell in the style sheet, and what it is in words.
-fn cell_words(place: Place) -> (&'static str, &'static str) {
-    match place {
-        Place::Free => ("free", "free, not committed"),
-        Place::FreeCommitted => ("idle", "free, committed"),
-        Place::LentUncommitted => ("lent", "lent, not committed"),
-        Place::LentPartly => ("part", "lent in part, committed"),
-        Place::LentWholly => ("whole", "lent as a whole, committed"),
+fn cell_words(cell: Cell) -> (&'static str, &'static str) {
+    match cell {
+        Cell::Free => ("free", "free, not committed"),
+        Cell::FreeCommitted => ("idle", "free, committed"),
+        Cell::LentUncommitted => ("lent", "lent, not committed"),
+        Cell::LentPartly => ("part", "lent in part, committed"),
+        Cell::LentWholly => ("whole", "lent as a whole, committed"),
     }
 }
 
@@ -59,17 +59,17 @@ pub(crate) fn push_where(page: &mut Writer, replay: &Replay<'_>) {
 /// Appends what a map shows, and how many cells are what.
 fn push_key(page: &mut Writer, cells: &CellCounts) {
     page.text(KEY);
-    push_count(page, Place::Free, cells.free);
-    push_count(page, Place::FreeCommitted, cells.free_committed);
-    push_count(page, Place::LentUncommitted, cells.lent_uncommitted);
-    push_count(page, Place::LentPartly, cells.lent_partly);
-    push_count(page, Place::LentWholly, cells.lent_wholly);
+    push_count(page, Cell::Free, cells.free);
+    push_count(page, Cell::FreeCommitted, cells.free_committed);
+    push_count(page, Cell::LentUncommitted, cells.lent_uncommitted);
+    push_count(page, Cell::LentPartly, cells.lent_partly);
+    push_count(page, Cell::LentWholly, cells.lent_wholly);
     page.text("</ul>\n");
 }
 
 /// Appends how many cells are so.
-fn push_count(page: &mut Writer, place: Place, cells: u64) {
-    let (class, words) = cell_words(place);
+fn push_count(page: &mut Writer, cell: Cell, cells: u64) {
+    let (class, words) = cell_words(cell);
     page.text(r#"<li><span class="k-p-"#)
         .text(class)
         .text(r#"">"#)
@@ -118,8 +118,8 @@ fn push_node(page: &mut Writer, roots: &[RootMap]) {
         .text(": ");
     push_node_counts(page, roots);
     page.text("</title>");
-    for place in STATES {
-        push_cells(page, roots, place);
+    for cell in STATES {
+        push_cells(page, roots, cell);
     }
     page.text("</svg><figcaption>")
         .digits(root / 2)
@@ -129,9 +129,9 @@ fn push_node(page: &mut Writer, roots: &[RootMap]) {
 /// Appends how many cells of a node are what.
 fn push_node_counts(page: &mut Writer, roots: &[RootMap]) {
     let mut before = "";
-    for place in STATES {
-        let (_, words) = cell_words(place);
-        let cells = count(roots, place);
+    for cell in STATES {
+        let (_, words) = cell_words(cell);
+        let cells = count(roots, cell);
         if cells > 0 {
             page.text(before).number(cells).text(" ").text(words);
             before = ", ";
@@ -140,11 +140,11 @@ fn push_node_counts(page: &mut Writer, roots: &[RootMap]) {
 }
 
 /// Returns how many cells of some roots are so.
-fn count(roots: &[RootMap], place: Place) -> u64 {
+fn count(roots: &[RootMap], cell: Cell) -> u64 {
     let mut cells: u64 = 0;
     for root in roots {
-        for its in &root.places {
-            if *its == place {
+        for its in &root.cells {
+            if *its == cell {
                 cells = cells.saturating_add(1);
             }
         }
@@ -153,25 +153,25 @@ fn count(roots: &[RootMap], place: Place) -> u64 {
 }
 
 /// Appends the path of the cells that are so, where there is any.
-fn push_cells(page: &mut Writer, roots: &[RootMap], place: Place) {
-    if count(roots, place) == 0 {
+fn push_cells(page: &mut Writer, roots: &[RootMap], cell: Cell) {
+    if count(roots, cell) == 0 {
         return;
     }
-    let (class, _) = cell_words(place);
+    let (class, _) = cell_words(cell);
     page.text(r#"<path class="p-"#).text(class).text(r#"" d=""#);
     let mut across = 0;
     for root in roots {
-        push_squares(page, root, place, across);
+        push_squares(page, root, cell, across);
         across = 9;
     }
     page.text("\"/>");
 }
 
 /// Appends the cells of a root that are so, from a column of the figure on.
-fn push_squares(page: &mut Writer, root: &RootMap, place: Place, across: u64) {
+fn push_squares(page: &mut Writer, root: &RootMap, cell: Cell, across: u64) {
     let mut number: u64 = 0;
-    for its in &root.places {
-        if *its == place {
+    for its in &root.cells {
+        if *its == cell {
             page.text("M")
                 .digits((number % 8).saturating_add(across))
                 .text(" ")

@@ -3,7 +3,7 @@
 //!     page.text("limit ").size(words).text(", ").count(nodes, "node", "nodes");
 //!
 //! Kept true: from the first growth that is refused on nothing is appended, and the answer of the
-//! end tells it. So a template is a chain of parts, and one place asks. Memory is the text's.
+//! end tells it. So a template is a chain of parts, and the end alone asks. Memory is the text's.
 use ms_page::push_name;
 use std::alloc::{AllocError, Global};
 

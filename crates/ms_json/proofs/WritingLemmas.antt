@@ -9,8 +9,8 @@ use Rattle.json.specs.Print.{escape, escape_byte, escape_letter, quoted}
 use Rattle.serde_json.specs.Data.{Data}
 use Rattle.serde_json.specs.View.{items_of}
 use Rattle.serde_json.specs.Written.{comma_if, compact_text, items_text, members_text}
-use Rattle.ms_pool.specs.declared.mapping.Place.{Place}
-use Rattle.ms_pool.specs.declared.mapping.Place.TheVariants.{Free, FreeCommitted, LentUncommitted, LentPartly, LentWholly}
+use Rattle.ms_pool.specs.declared.mapping.Cell.{Cell}
+use Rattle.ms_pool.specs.declared.mapping.Cell.TheVariants.{Free, FreeCommitted, LentUncommitted, LentPartly, LentWholly}
 use Rattle.ms_report.specs.Map.{letter, letters}
 use Rattle.ms_report.proofs.TextLemmas.{adds_two, adds_text}
 use Rattle.ms_json.specs.Rows.{Row, elements_run, is_later, is_plain, is_plain_byte, labelled, list_of, members_run, object_of}
@@ -115,16 +115,16 @@ plain_decimal n small = decimal_by_steps (λ number text. is_plain text ≡ true
     (plain_one (48 + number % 10) (plain_digit (number % 10) (omega (arith, many)))))
     n small
 
-letter_plain : (place : Place) → is_plain (letter place) ≡ true
+letter_plain : (cell : Cell) → is_plain (letter cell) ≡ true
 letter_plain Free = refl
 letter_plain FreeCommitted = refl
 letter_plain LentUncommitted = refl
 letter_plain LentPartly = refl
 letter_plain LentWholly = refl
 
-pub letters_plain : (places : List Place) → is_plain (letters places) ≡ true
+pub letters_plain : (cells : List Cell) → is_plain (letters cells) ≡ true
 letters_plain [] = refl
-letters_plain (place ∷ places) = plain_both (letter place) (letters places) (letter_plain place) (letters_plain places)
+letters_plain (cell ∷ cells) = plain_both (letter cell) (letters cells) (letter_plain cell) (letters_plain cells)
 
 -- What a call added is the same as another text.
 pub adds_as : {X E : Type 0} (result : Result X E) (old new a b : List ℕ) → a ≡ b → OnOk result (new ≡ old ++ a)

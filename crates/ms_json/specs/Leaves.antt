@@ -8,7 +8,7 @@ use Rattle.ms_json.specs.Rows.{Row, is_plain, list_of, natural}
 use Rattle.ms_json.specs.Sums.{arena_data}
 use Rattle.ms_json.specs.Series.{series_data}
 use Rattle.ms_json.specs.declared.leaf.Leaf.{Leaf}
-use Rattle.ms_json.specs.declared.leaf.Leaf.TheVariants.{Nothing, Number, Word, Levels, Places, Arena, Series}
+use Rattle.ms_json.specs.declared.leaf.Leaf.TheVariants.{Nothing, Number, Word, Levels, Cells, Arena, Series}
 
 -- A leaf, as it is written.
 abbrev pub leaf_data : Leaf → Data
@@ -16,7 +16,7 @@ leaf_data Nothing = null
 leaf_data (Number n) = natural n
 leaf_data (Word word) = string word.now
 leaf_data (Levels numbers) = list_of (map natural numbers.now)
-leaf_data (Places places) = string (letters places.now)
+leaf_data (Cells cells) = string (letters cells.now)
 leaf_data (Arena totals) = arena_data (arena_in totals.now)
 leaf_data (Series series columns) = series_data series columns.now
 

@@ -9,7 +9,7 @@ use Rattle.ms_base.specs.Policy.{granule_of}
 use Rattle.ms_base.specs.Totals.{SpaceSums, Sums}
 use Rattle.ms_loaders.specs.Details.{ArenaSums, LoaderSums}
 use Rattle.ms_loaders.specs.declared.peaks.Peaks.{Peaks}
-use Rattle.ms_pool.specs.Mapping.{RootPlaces}
+use Rattle.ms_pool.specs.Mapping.{RootCells}
 use Rattle.ms_report.specs.Kinds.{kinds_of}
 use Rattle.ms_report.specs.Layout.{kind_text}
 use Rattle.ms_report.specs.Map.{letters}
@@ -115,10 +115,10 @@ peaks_data peaks = object_of (
     ∷ (codes "used", natural peaks.used)
     ∷ [])
 
--- A root: the letter of each of its places, its number, and its slot.
-abbrev pub root_data : RootPlaces → Data
+-- A root: the letter of each of its cells, its number, and its slot.
+abbrev pub root_data : RootCells → Data
 root_data root = object_of (
-    (codes "places", string (letters root.places))
+    (codes "places", string (letters root.cells))
     ∷ (codes "root", natural root.root)
     ∷ (codes "slot", natural (root.root / 2))
     ∷ [])

@@ -4,10 +4,10 @@ ghost use Rattle.serde_json.specs.Written.{compact_text};
 ghost use Rattle.ms_json.specs.Leaves.{is_leaf, leaf_data};
 
 use crate::series::{Series, push_series};
-use crate::writing::{push_arena, push_levels, push_number, push_places, push_word};
+use crate::writing::{push_arena, push_cells, push_levels, push_number, push_word};
 use ms_course::Column;
 use ms_loaders::ArenaTotals;
-use ms_pool::Place;
+use ms_pool::Cell;
 use std::alloc::AllocError;
 
 /// What a member of a flat object holds.
@@ -21,8 +21,8 @@ pub(crate) enum Leaf<'a> {
     Word(&'a str),
     /// A number for each level.
     Levels(&'a [u32; 13]),
-    /// A letter for each place.
-    Places(&'a [Place]),
+    /// A letter for each cell.
+    Cells(&'a [Cell]),
     /// The sums over an arena.
     Arena(&'a ArenaTotals),
     /// A number for each column.
@@ -40,7 +40,7 @@ pub(crate) fn push_leaf(text: &mut String, leaf: &Leaf<'_>) -> Result<(), AllocE
         Leaf::Number(number) => push_number(text, *number),
         Leaf::Word(word) => push_word(text, word),
         Leaf::Levels(numbers) => push_levels(text, numbers.as_slice()),
-        Leaf::Places(places) => push_places(text, places),
+        Leaf::Cells(cells) => push_cells(text, cells),
         Leaf::Arena(totals) => push_arena(text, totals),
         Leaf::Series(series, columns) => push_series(text, *series, columns),
     }

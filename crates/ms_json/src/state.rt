@@ -218,7 +218,7 @@ fn push_root(text: &mut String, root: &RootMap) -> Result<(), AllocError>
         ≡ string_bytes text.old ++ compact_text (root_data (map_in root.now))) }
 {
     let rows = [
-        ("places", Leaf::Places(root.places.as_slice())),
+        ("places", Leaf::Cells(root.cells.as_slice())),
         ("root", Leaf::Number(u128::from(root.root))),
         ("slot", Leaf::Number(u128::from(root.root / 2))),
     ];

@@ -14,7 +14,7 @@ ghost use Rattle.ms_loaders.specs.Details.{arena_in};
 use crate::leaf::{Leaf, push_leaf};
 use itoa::Buffer;
 use ms_loaders::ArenaTotals;
-use ms_pool::Place;
+use ms_pool::Cell;
 use ms_report::push_letters;
 use std::alloc::AllocError;
 
@@ -156,12 +156,12 @@ fn push_each(text: &mut String, numbers: &[u32]) -> Result<(), AllocError>
     Ok(())
 }
 
-/// Appends the letters of places between quotes.
-pub(crate) fn push_places(text: &mut String, places: &[Place]) -> Result<(), AllocError>
+/// Appends the letters of cells between quotes.
+pub(crate) fn push_cells(text: &mut String, cells: &[Cell]) -> Result<(), AllocError>
     ensures { OnOk result (string_bytes text.new
-        ≡ string_bytes text.old ++ quoted (letters places.now)) }
+        ≡ string_bytes text.old ++ quoted (letters cells.now)) }
 {
     text.push_str("\"")?;
-    push_letters(text, places)?;
+    push_letters(text, cells)?;
     text.push_str("\"")
 }

@@ -57,12 +57,12 @@ only_one false e = e
 
 module _ (space : Space) (old : Ledger) (owner : ℕ) (sound : IsSoundLedger old) where
   -- The last chunk of an account has grown.
-  pub grown_commits : (chunks : List Chunk) (place : ℕ) (was is : Chunk) (total : ℕ) (may : Bool)
-      → slice_get chunks place ≡ Some was → grown (state_in space old) was total may ≡ Ok is
+  pub grown_commits : (chunks : List Chunk) (index : ℕ) (was is : Chunk) (total : ℕ) (may : Bool)
+      → slice_get chunks index ≡ Some was → grown (state_in space old) was total may ≡ Ok is
       → Serves old (record { owner = owner; space = space; chunks = chunks }) → AreChunks space chunks
       → CommitsIn space old (with_grown old is) (was ∷ []) is × (is.start ≡ was.start)
       × (committed_of (other_space space) (with_grown old is) ≡ committed_of (other_space space) old)
-  grown_commits chunks place was is total may found grows served its = (
+  grown_commits chunks index was is total may found grows served its = (
     record {
       before = there.before;
       after = there.after;
@@ -83,10 +83,10 @@ module _ (space : Space) (old : Ledger) (owner : ℕ) (sound : IsSoundLedger old
       account = record { owner = owner; space = space; chunks = chunks }
 
       has : Contains chunks was
-      has = contains_at chunks place was found
+      has = contains_at chunks index was found
 
-      well : GrownWell old account place was is total may
-      well = grown_well old account place was is total may sound served its found grows
+      well : GrownWell old account index was is total may
+      well = grown_well old account index was is total may sound served its found grows
 
       there : GrownThere old account was is
       there = grown_there old account was is sound served its has well.start

@@ -127,16 +127,16 @@ tells_none space old new loaders after granule front start words came same told 
     nothing k inside = omega (arith, ltb-true k (0 + 0) (and_parts (nat_le 0 k) (nat_lt k (0 + 0)) inside).1)
 
 -- The last of chunks of which the last was replaced, or one was added.
-set_at : (cs : List Chunk) (place : ℕ) (was is : Chunk) → slice_get cs place ≡ Some was
-    → slice_get (slice_set cs place is) place ≡ Some is
-set_at [] place was is found = absurd (cc)
+set_at : (cs : List Chunk) (index : ℕ) (was is : Chunk) → slice_get cs index ≡ Some was
+    → slice_get (slice_set cs index is) index ≡ Some is
+set_at [] index was is found = absurd (cc)
 set_at (c ∷ cs) zero was is found = refl
-set_at (c ∷ cs) (suc place) was is found = set_at cs place was is found
+set_at (c ∷ cs) (suc index) was is found = set_at cs index was is found
 
-as_many : (cs : List Chunk) (place : ℕ) (is : Chunk) → length (slice_set cs place is) ≡ length cs
-as_many [] place is = refl
+as_many : (cs : List Chunk) (index : ℕ) (is : Chunk) → length (slice_set cs index is) ≡ length cs
+as_many [] index is = refl
 as_many (c ∷ cs) zero is = refl
-as_many (c ∷ cs) (suc place) is = ap suc (as_many cs place is)
+as_many (c ∷ cs) (suc index) is = ap suc (as_many cs index is)
 
 at_end : (cs : List Chunk) (is : Chunk) → slice_get (cs ++ is ∷ []) (length cs) ≡ Some is
 at_end [] is = refl
@@ -156,10 +156,10 @@ module _ (space : Space) (old new : Ledger) (loaders after : List (ℕ × Loader
       (machine_of new after) → Told
   run_is front start words e f g tells = rw (e, f, g) tells
 
-  last_at : (cs : List Chunk) (place : ℕ) (chunk : Chunk) → (arena_of space is.state).chunks ≡ cs
-      → length cs - 1 ≡ place → slice_get cs place ≡ Some chunk → (now.start ≡ chunk.start) × (now.front ≡ chunk.front)
-  last_at cs place chunk chunks_are place_is there =
-      at_now.last chunk (ap (λ (l : List Chunk). slice_get l (length l - 1)) chunks_are ∙ ap (slice_get cs) place_is ∙ there)
+  last_at : (cs : List Chunk) (index : ℕ) (chunk : Chunk) → (arena_of space is.state).chunks ≡ cs
+      → length cs - 1 ≡ index → slice_get cs index ≡ Some chunk → (now.start ≡ chunk.start) × (now.front ≡ chunk.front)
+  last_at cs index chunk chunks_are index_is there =
+      at_now.last chunk (ap (λ (l : List Chunk). slice_get l (length l - 1)) chunks_are ∙ ap (slice_get cs) index_is ∙ there)
 
   grown_tells : (chunk greater : Chunk) (total : ℕ) (may : Bool)
       → slice_get (arena_of space was.state).chunks (length (arena_of space was.state).chunks - 1) ≡ Some chunk
@@ -169,13 +169,13 @@ module _ (space : Space) (old new : Ledger) (loaders after : List (ℕ × Loader
       → new ≡ with_grown old greater → Told
   grown_tells chunk greater total may there grows chunks_are ledger =
       let cs = (arena_of space was.state).chunks in
-      let place = length cs - 1 in
-      let its = grown_commits space old (owner_in space was) sound cs place chunk greater total may there grows served
+      let index = length cs - 1 in
+      let its = grown_commits space old (owner_in space was) sound cs index chunk greater total may there grows served
       (view.chunks space) in
       let held : now.held ≡ edge.held =
-      at_now.held ∙ ap length chunks_are ∙ as_many cs place greater ∙ sym at.held in
-      let last = last_at (slice_set cs place greater) place greater chunks_are
-      (ap (λ (n : ℕ). n - 1) (as_many cs place greater)) (set_at cs place chunk greater there) in
+      at_now.held ∙ ap length chunks_are ∙ as_many cs index greater ∙ sym at.held in
+      let last = last_at (slice_set cs index greater) index greater chunks_are
+      (ap (λ (n : ℕ). n - 1) (as_many cs index greater)) (set_at cs index chunk greater there) in
       run_is chunk.front greater.start greater.front
       (ap (λ b. if b then edge.front else 0) (eq-eqb now.held edge.held held) ∙ (at.last chunk there).1) last.0 last.1
       (subst (λ (l : Ledger). committed_of (other_space space) l ≡ committed_of (other_space space) old
@@ -187,7 +187,7 @@ module _ (space : Space) (old new : Ledger) (loaders after : List (ℕ × Loader
         sym its.1,
         refl,
         (All-contains (λ (c : Chunk). (1 ≤ c.front) × (c.front ≤ size_of c.level))
-            cs chunk (view.chunks space).fronts (contains_at cs place chunk there)).0,
+            cs chunk (view.chunks space).fronts (contains_at cs index chunk there)).0,
       ) same counted)
       (ap (committed_of (other_space space)) ledger ∙ its.2)
       (subst (λ (l : Ledger). CommitsIn space old l (chunk ∷ []) greater) (sym ledger) its.0) told)

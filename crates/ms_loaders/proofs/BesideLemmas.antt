@@ -13,7 +13,7 @@ use Rattle.ms_base.specs.Names.{named, with_new}
 use Rattle.ms_base.proofs.entries.HashedLemmas.{named_by_name}
 use Rattle.ms_base.proofs.entries.LookupLemmas.{named_new_same, named_new_other}
 use Rattle.ms_arena.specs.Alloc.{TakeRelation, GrowRelation}
-use Rattle.ms_arena.specs.Raw.{RawView}
+use Rattle.ms_arena.specs.Raw.{RawArenaView}
 use Rattle.ms_loaders.specs.Naming.{AllocatesNamed, EnterRefused, names_after}
 use Rattle.ms_loaders.specs.Table.{TableView, NamesAnew, block_of, entries_of, in_row, no_block, unless_none}
 use Rattle.ms_loaders.proofs.TableLemmas.{named_of, new_entries, stay_entries}
@@ -67,8 +67,8 @@ after_there table others name (Ok block) none are =
 after_there table others name (Err refusal) none are = stay_there table others are
 
 pub beside : {S : Type 0} (grew : GrowRelation S) (took : TakeRelation S) (policy : Policy) (table : TableView)
-    (others : List (ℕ × Block)) (was : RawView) (name words : ℕ) (before : S) (answer : Result Block Refusal)
-    (is : RawView) (after : S) → in_row table.first table.row name ≡ no_block
+    (others : List (ℕ × Block)) (was : RawArenaView) (name words : ℕ) (before : S) (answer : Result Block Refusal)
+    (is : RawArenaView) (after : S) → in_row table.first table.row name ≡ no_block
     → AllocatesNamed grew took policy (by_name table.others) was name words before answer (by_name others) is after
     → AllocatesNamed grew took policy (by_name (entries_of table)) was name words before answer
     (by_name (entries_of (with_others table others))) is after

@@ -19,10 +19,10 @@ slot_small : (space : Space) (slot : ℕ) → IsSlotOf space slot → slot < 80
 slot_small NonClass slot its = omega (arith, its)
 slot_small Class slot its = omega (arith, its.1)
 
-pub chunk_small : (space : Space) (chunks : List Chunk) (place : ℕ) (chunk : Chunk) → AreChunks space chunks
-    → slice_get chunks place ≡ Some chunk → chunk.start + chunk.front < 2 ^ 53
-chunk_small space chunks place chunk are found =
-    let there = contains_at chunks place chunk found in
+pub chunk_small : (space : Space) (chunks : List Chunk) (index : ℕ) (chunk : Chunk) → AreChunks space chunks
+    → slice_get chunks index ≡ Some chunk → chunk.start + chunk.front < 2 ^ 53
+chunk_small space chunks index chunk are found =
+    let there = contains_at chunks index chunk found in
     omega (
       arith,
       ends_in_node chunk.start chunk.level

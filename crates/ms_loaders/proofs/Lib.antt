@@ -14,7 +14,7 @@ mod EdgeLemmas
 mod ServingLemmas
 mod StepServedLemmas
 pub mod calls
-pub mod places
+pub mod slots
 pub mod steps
 pub mod sums
 pub mod events

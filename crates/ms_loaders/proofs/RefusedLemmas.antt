@@ -17,7 +17,7 @@ use Rattle.ms_loaders.specs.declared.loader.Loader.TheInside.{Inside}
 use Rattle.ms_loaders.proofs.BesideLemmas.{cause_there, has_there}
 use Rattle.ms_loaders.proofs.calls.LoaderAllocLemmas.{name_is_refused}
 
--- A new name that has no place in the arena, or finds no room, is not entered.
+-- A new name for which the arena has no chunk, or that finds no room, is not entered.
 pub new_refused : (names : List (ℕ × Block)) (name words : ℕ) (refusal : Refusal) → named names name ≡ None
     → PlaceRefused words refusal → EnterRefused names name words refusal
 new_refused names name words BlockExists unused its = absurd its

@@ -9,32 +9,32 @@ use Rattle.std.proofs.lemmas.Bool.{cases_eq, cases_lt, eq-eqb, ne_eqb}
 use Rattle.std.proofs.lemmas.List.{get_or_past, get_or-take, length-take}
 use Rattle.std.proofs.Math.Seq.{take-length}
 use Rattle.ms_base.specs.declared.span.Block.{Block}
-use Rattle.ms_loaders.specs.Table.{IsTable, at_place, block_in, in_row, no_block, unless_none}
-use Rattle.ms_loaders.proofs.TableLemmas.{at_its_place, before_row}
+use Rattle.ms_loaders.specs.Table.{IsTable, at_slot, block_in, in_row, no_block, unless_none}
+use Rattle.ms_loaders.proofs.TableLemmas.{at_its_slot, before_row}
 
--- A cut list has the blocks of the places before its end, and none further on.
-cut_has : (row : List Block) (n place : ℕ) → place < n → at_place (take n row) place ≡ at_place row place
-cut_has row n place less = get_or-take n row place no_block less
+-- A cut list has the blocks of the slots before its end, and none further on.
+cut_has : (row : List Block) (n slot : ℕ) → slot < n → at_slot (take n row) slot ≡ at_slot row slot
+cut_has row n slot less = get_or-take n row slot no_block less
 
-cut_lacks : (row : List Block) (n place : ℕ) → n ≤ place → at_place (take n row) place ≡ no_block
-cut_lacks row n place past = get_or_past (take n row) place no_block (omega (arith, past, length-take n row))
+cut_lacks : (row : List Block) (n slot : ℕ) → n ≤ slot → at_slot (take n row) slot ≡ no_block
+cut_lacks row n slot past = get_or_past (take n row) slot no_block (omega (arith, past, length-take n row))
 
 -- So has a cut row.
 cut_row : (first n name : ℕ) (row : List Block) → name < first + n → in_row first (take n row) name ≡ in_row first row name
 cut_row first n name row less = elim (cases_lt name first) [
   | inl before ↦ before_row first (take n row) name before ∙ sym (before_row first row name before)
   | inr from ↦
-      at_its_place first (take n row) (name - first) name (omega (arith, from))
+      at_its_slot first (take n row) (name - first) name (omega (arith, from))
       ∙ cut_has row n (name - first) (omega (arith, from, less))
-      ∙ sym (at_its_place first row (name - first) name (omega (arith, from)))
+      ∙ sym (at_its_slot first row (name - first) name (omega (arith, from)))
 ]
 
 past_cut : (first n name : ℕ) (row : List Block) → first + n ≤ name → in_row first (take n row) name ≡ no_block
 past_cut first n name row past =
-    at_its_place first (take n row) (name - first) name (omega (arith, past))
+    at_its_slot first (take n row) (name - first) name (omega (arith, past))
     ∙ cut_lacks row n (name - first) (omega (arith, past))
 
--- With one place more it differs there alone.
+-- With one slot more it differs there alone.
 one_longer : (first at name : ℕ) (row : List Block) → name ≢ first + at
     → in_row first (take (at + 1) row) name ≡ in_row first (take at row) name
 one_longer first at name row differ = elim (cases_lt name (first + at)) [
@@ -49,7 +49,7 @@ in_others first row more others name same = ap (λ block. unless_none block (loo
 
 -- What the names so far have among the others, once the next one was handed over, or has no block.
 pub one_more : (first at key : ℕ) (row : List Block) (block : Block) (old now new : List (ℕ × Block)) → key ≡ first + at
-    → block ≡ at_place row at → nat_eq block.words 0 ≡ false
+    → block ≡ at_slot row at → nat_eq block.words 0 ≡ false
     → ((name : ℕ) → lookup (nat_eq name) now ≡ block_in first (take at row) old name)
     → ((name : ℕ) → lookup (nat_eq name) new ≡ cond (nat_eq key name) (Some block) (lookup (nat_eq name) now))
     → (name : ℕ) → lookup (nat_eq name) new ≡ block_in first (take (at + 1) row) old name
@@ -57,7 +57,7 @@ one_more first at key row block old now new is here some so_far sets name = elim
   | inl same ↦
       sets name ∙ ap (λ b. cond b (Some block) (lookup (nat_eq name) now)) (eq-eqb key name same)
       ∙ sym (ap (λ b. unless_none b (lookup (nat_eq name) old))
-      (at_its_place first (take (at + 1) row) at name (sym same ∙ is) ∙ cut_has row (at + 1) at (omega arith) ∙ sym here)
+      (at_its_slot first (take (at + 1) row) at name (sym same ∙ is) ∙ cut_has row (at + 1) at (omega arith) ∙ sym here)
       ∙ ap (λ b. cond b (lookup (nat_eq name) old) (Some block)) some)
   | inr differ ↦
       sets name ∙ ap (λ b. cond b (Some block) (lookup (nat_eq name) now)) (ne_eqb key name differ) ∙ so_far name
@@ -66,7 +66,7 @@ one_more first at key row block old now new is here some so_far sets name = elim
 ]
 
 pub none_more : (first at : ℕ) (row : List Block) (block : Block) (old now : List (ℕ × Block))
-    → block ≡ at_place row at → nat_eq block.words 0 ≡ true
+    → block ≡ at_slot row at → nat_eq block.words 0 ≡ true
     → ((name : ℕ) → lookup (nat_eq name) now ≡ block_in first (take at row) old name)
     → (name : ℕ) → lookup (nat_eq name) now ≡ block_in first (take (at + 1) row) old name
 none_more first at row block old now here none so_far name = elim (cases_eq name (first + at)) [
@@ -74,7 +74,7 @@ none_more first at row block old now here none so_far name = elim (cases_eq name
       so_far name
       ∙ ap (λ b. unless_none b (lookup (nat_eq name) old)) (past_cut first at name row (omega (arith, same)))
       ∙ sym (ap (λ b. unless_none b (lookup (nat_eq name) old))
-      (at_its_place first (take (at + 1) row) at name same ∙ cut_has row (at + 1) at (omega arith) ∙ sym here)
+      (at_its_slot first (take (at + 1) row) at name same ∙ cut_has row (at + 1) at (omega arith) ∙ sym here)
       ∙ ap (λ b. cond b (lookup (nat_eq name) old) (Some block)) none)
   | inr differ ↦
       so_far name
@@ -97,9 +97,9 @@ left_behind first names row old now all name = elim (cases_lt name (first + name
   where
     dropped : first + names ≤ name → in_row (first + names) (drop names row) name ≡ in_row first row name
     dropped past =
-        at_its_place (first + names) (drop names row) (name - (first + names)) name (omega (arith, past))
+        at_its_slot (first + names) (drop names row) (name - (first + names)) name (omega (arith, past))
         ∙ get_or-drop names row (name - (first + names)) no_block
-        ∙ sym (at_its_place first row (names + (name - (first + names))) name (omega (arith, past)))
+        ∙ sym (at_its_slot first row (names + (name - (first + names))) name (omega (arith, past)))
 
 -- A row that was written is all of what lent it, and as long as it was.
 written_back : (count : ℕ) (new old : List Block) → length new ≡ length old → count ≡ length old

@@ -10,7 +10,7 @@ use Rattle.ms_base.specs.declared.span.Block.{Block}
 use Rattle.ms_base.specs.Hashed.{by_name}
 use Rattle.ms_base.specs.Names.{named, with_new, without}
 use Rattle.ms_base.proofs.entries.HashedLemmas.{by_name_is, named_by_name, new_by_name, without_by_name, rises_by_name}
-use Rattle.ms_loaders.specs.Table.{TableView, NamesAnew, StayNamed, block_of, entries_of, listed, at_place, no_block}
+use Rattle.ms_loaders.specs.Table.{TableView, NamesAnew, StayNamed, block_of, entries_of, listed, at_slot, no_block}
 use Rattle.ms_loaders.specs.Table.{in_row}
 use Rattle.ms_loaders.specs.Table.{unless_none}
 
@@ -28,9 +28,9 @@ lookup_past (block ∷ more) others from name before =
           ∙ lookup_past more others (from + 1) name (omega (arith, before))
     ]
 
--- What has a name is at its place of the list, or else past it.
+-- What has a name is at its slot of the list, or else past it.
 lookup_listed : (row : List Block) (others : List (ℕ × Block)) (from at name : ℕ) → name ≡ from + at
-    → lookup (nat_eq name) (listed from row ++ others) ≡ unless_none (at_place row at) (lookup (nat_eq name) others)
+    → lookup (nat_eq name) (listed from row ++ others) ≡ unless_none (at_slot row at) (lookup (nat_eq name) others)
 lookup_listed [] others from at name is = refl
 lookup_listed (block ∷ more) others from zero name is =
     elim (nat_eq block.words 0) as (λ t.
@@ -43,7 +43,7 @@ lookup_listed (block ∷ more) others from zero name is =
 lookup_listed (block ∷ more) others from (suc at) name is =
     elim (nat_eq block.words 0) as (λ t.
     lookup (nat_eq name) (cond t (listed (from + 1) more) ((from, block) ∷ listed (from + 1) more) ++ others)
-    ≡ unless_none (at_place more at) (lookup (nat_eq name) others)) [
+    ≡ unless_none (at_slot more at) (lookup (nat_eq name) others)) [
       | true ↦ lookup_listed more others (from + 1) at name (omega (arith, is))
       | false ↦ lookup_tail (nat_eq name) (from, block) (listed (from + 1) more ++ others)
           (ne_eqb name from (λ same. absurd (omega (arith, is, same))))
@@ -53,7 +53,7 @@ lookup_listed (block ∷ more) others from (suc at) name is =
 pub lookup_entries : (table : TableView) (name : ℕ) → lookup (nat_eq name) (entries_of table) ≡ block_of table name
 lookup_entries table name = elim (nat_lt name table.first) as (λ b. nat_lt name table.first ≡ b
     → lookup (nat_eq name) (entries_of table)
-    ≡ unless_none (cond b no_block (at_place table.row (name - table.first))) (lookup (nat_eq name) table.others)) [
+    ≡ unless_none (cond b no_block (at_slot table.row (name - table.first))) (lookup (nat_eq name) table.others)) [
       | true ↦ λ before. lookup_past table.row table.others table.first name (ltb-true name table.first before)
       | false ↦ λ within. lookup_listed table.row table.others table.first (name - table.first) name
           (omega (arith, ltb-false name table.first within))
@@ -91,17 +91,17 @@ pub without_entries : (old new : TableView) (name : ℕ) → NamesAnew old name 
 without_entries old new name anew =
     without_by_name (entries_of old) (entries_of new) name (sets old new name None anew)
 
--- The block of a name by its place, and of a name that has none.
-pub at_its_place : (first : ℕ) (row : List Block) (place name : ℕ) → name ≡ first + place
-    → in_row first row name ≡ at_place row place
-at_its_place first row place name is =
-    ap (λ b. cond b no_block (at_place row (name - first))) (le-ltb name first (omega (arith, is)))
-    ∙ ap (at_place row) (omega (arith, is))
+-- The block of a name by its slot, and of a name that has none.
+pub at_its_slot : (first : ℕ) (row : List Block) (slot name : ℕ) → name ≡ first + slot
+    → in_row first row name ≡ at_slot row slot
+at_its_slot first row slot name is =
+    ap (λ b. cond b no_block (at_slot row (name - first))) (le-ltb name first (omega (arith, is)))
+    ∙ ap (at_slot row) (omega (arith, is))
 
 pub before_row : (first : ℕ) (row : List Block) (name : ℕ) → name < first → in_row first row name ≡ no_block
-before_row first row name before = ap (λ b. cond b no_block (at_place row (name - first))) (lt-ltb name first before)
+before_row first row name before = ap (λ b. cond b no_block (at_slot row (name - first))) (lt-ltb name first before)
 
 pub past_row : (first : ℕ) (row : List Block) (name : ℕ) → first + length row ≤ name → in_row first row name ≡ no_block
 past_row first row name past =
-    at_its_place first row (name - first) name (omega (arith, past))
+    at_its_slot first row (name - first) name (omega (arith, past))
     ∙ get_or_past row (name - first) no_block (omega (arith, past))

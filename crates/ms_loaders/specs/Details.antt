@@ -7,7 +7,7 @@ use Rattle.ms_base.specs.declared.kind.Space.{Space}
 use Rattle.ms_base.specs.declared.kind.Space.TheVariants.{NonClass, Class}
 use Rattle.ms_base.specs.State.{LoaderState, Machine, arena_of, pool_of}
 use Rattle.ms_base.specs.Totals.{capacity_of, fronts_of, used_of, kept_of, live_in}
-use Rattle.ms_pool.specs.Mapping.{RootPlaces, map_in, maps_of}
+use Rattle.ms_pool.specs.Mapping.{RootCells, map_in, maps_of}
 use Rattle.ms_arena.specs.declared.totals.ArenaTotals.{ArenaTotals}
 use Rattle.ms_loaders.specs.declared.details.LoaderDetails.{LoaderDetails}
 use Rattle.ms_loaders.specs.declared.details.Details.{Details}
@@ -31,10 +31,10 @@ pub record LoaderSums : Type 0 where
   pub space : ArenaSums
   pub class_space : ArenaSums
 
--- All that a full report shows beyond the totals: the sums of each loader, and each root's places.
+-- All that a full report shows beyond the totals: the sums of each loader, and each root's cells.
 pub record DetailSums : Type 0 where
   pub loaders : List LoaderSums
-  pub roots : List RootPlaces
+  pub roots : List RootCells
 
 -- The sums over a loader's arena in a space; waste is what is in use and neither live nor a free
 -- block.
@@ -58,7 +58,7 @@ loader_sums entry = record {
   class_space = arena_sums Class entry.1;
 }
 
--- Those of each loader of a machine, in order of name, and the places of each reserved root, those
+-- Those of each loader of a machine, in order of name, and the cells of each reserved root, those
 -- of the class space last.
 abbrev pub details_of : Machine → DetailSums
 details_of m = record {

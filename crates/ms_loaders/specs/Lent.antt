@@ -2,28 +2,28 @@
 use Rattle.std.specs.Prelude.{ℕ, ◌/◌, ◌%◌, List, Option, Some, None, slice_set}
 use Rattle.std.specs.Borrow.{LendsIf, MutBor, Fml}
 use Rattle.ms_loaders.specs.Loader.{LoaderView}
-use Rattle.ms_loaders.specs.Places.{in_page, page_of}
+use Rattle.ms_loaders.specs.Slots.{in_page, page_of}
 use Rattle.ms_loaders.specs.contracts.loader.Loader.{the_row as loader_row}
 use Rattle.ms_loaders.specs.contracts.loaders.page.Page.{the_row}
-use Rattle.ms_loaders.specs.contracts.loaders.places.Places.{the_row as places_row}
+use Rattle.ms_loaders.specs.contracts.loaders.slots.Slots.{the_row as slots_row}
 
 -- An entry with another loader.
 abbrev pub with_loader : Option (ℕ × LoaderView) → LoaderView → Option (ℕ × LoaderView)
 with_loader None loader = None
 with_loader (Some entry) loader = Some (entry.0, loader)
 
--- A page with another loader at a place where one stands.
+-- A page with another loader at a slot where one stands.
 abbrev pub page_with : List (Option (ℕ × LoaderView)) → ℕ → LoaderView → List (Option (ℕ × LoaderView))
-page_with page place loader = slice_set page place (with_loader (in_page page place) loader)
+page_with page slot loader = slice_set page slot (with_loader (in_page page slot) loader)
 
 -- Pages with another loader at a number where one stands.
 abbrev pub pages_with : List (List (Option (ℕ × LoaderView))) → ℕ → LoaderView → List (List (Option (ℕ × LoaderView)))
 pages_with pages number loader = slice_set pages (number / 256) (page_with (page_of pages number) (number % 256) loader)
 
 -- The page ends with the last value behind the loader that was lent, where there was one.
-abbrev pub LendsPlace : MutBor (List (Option (ℕ × LoaderView))) → ℕ → Option (MutBor LoaderView) → Fml
-LendsPlace page place lent = LendsIf the_row loader_row page lent (page_with page.now place) page.now
+abbrev pub LendsSlot : MutBor (List (Option (ℕ × LoaderView))) → ℕ → Option (MutBor LoaderView) → Fml
+LendsSlot page slot lent = LendsIf the_row loader_row page lent (page_with page.now slot) page.now
 
--- The places end with the last value behind the loader that was lent, where there was one.
+-- The slots end with the last value behind the loader that was lent, where there was one.
 abbrev pub LendsAt : MutBor (List (List (Option (ℕ × LoaderView)))) → ℕ → Option (MutBor LoaderView) → Fml
-LendsAt places number lent = LendsIf places_row loader_row places lent (pages_with places.now number) places.now
+LendsAt slots number lent = LendsIf slots_row loader_row slots lent (pages_with slots.now number) slots.now

@@ -3,7 +3,7 @@ pub mod LoaderInside
 pub mod Table
 pub mod Naming
 pub mod Boxed
-pub mod Places
+pub mod Slots
 pub mod Lent
 pub mod Loaders
 pub mod GivenBack

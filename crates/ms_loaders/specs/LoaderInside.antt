@@ -9,7 +9,7 @@ use Rattle.ms_base.specs.declared.span.Block.{Block}
 use Rattle.ms_base.specs.Live.{LiveBlock}
 use Rattle.ms_base.specs.Spaces.{by_space, is_in, space_at}
 use Rattle.ms_base.specs.Names.{AreNamed}
-use Rattle.ms_arena.specs.Raw.{RawView, Holds, contents_at}
+use Rattle.ms_arena.specs.Raw.{RawArenaView, Holds, contents_at}
 use Rattle.ms_arena.specs.Words.{WordsView}
 use Rattle.ms_loaders.specs.Loader.{LoaderView}
 use Rattle.ms_loaders.specs.declared.loader.Loader.TheInside.{Inside}
@@ -33,7 +33,7 @@ named_runs space names =
     filter (λ (run : ℕ × ℕ). is_in space run.0) (map (λ (block : Block). (block.start, block.words)) (values_of names))
 
 -- The words of a loader's arenas.
-abbrev pub words_in : RawView → RawView → WordsBy
+abbrev pub words_in : RawArenaView → RawArenaView → WordsBy
 words_in arena class_arena space = (by_space space arena class_arena).words
 
 -- The loader that the fields stand for.
@@ -50,7 +50,7 @@ view_of a = record {
 }
 
 -- An arena of a loader lies in its space, follows a kind, and holds the named blocks of the space.
-pub record IsArena (space : Space) (kind : Kind) (names : List (ℕ × Block)) (arena : RawView) : Type 0 where
+pub record IsArena (space : Space) (kind : Kind) (names : List (ℕ × Block)) (arena : RawArenaView) : Type 0 where
   pub space_is : arena.space ≡ space
   pub kind_is : arena.kind ≡ kind
   pub holds : Holds arena (named_runs space names)

@@ -11,7 +11,7 @@ use Rattle.ms_pool.specs.Source.{IsTakeRefusal}
 use Rattle.ms_loaders.specs.Table.{TableView, entries_of}
 use Rattle.ms_arena.specs.Arena.{PlaceRefused}
 use Rattle.ms_arena.specs.Alloc.{TakeRelation, GrowRelation, Allocates}
-use Rattle.ms_arena.specs.Raw.{RawView, Gains, IsSameRaw, live_then, with_live}
+use Rattle.ms_arena.specs.Raw.{RawArenaView, Gains, IsSameRaw, live_then, with_live}
 
 -- The blocks in rising order of their names.
 pub record BlockNames : Type 0 where
@@ -36,8 +36,8 @@ names_after names name (Ok block) = with_new names name block
 names_after names name (Err refusal) = names
 
 -- The name is not entered: nothing changes, and no arena is asked.
-pub record IsNotNamed {S : Type 0} (names : List (ℕ × Block)) (was : RawView) (name words : ℕ) (before : S)
-    (answer : Result Block Refusal) (others : List (ℕ × Block)) (is : RawView) (after : S) : Type 0 where
+pub record IsNotNamed {S : Type 0} (names : List (ℕ × Block)) (was : RawArenaView) (name words : ℕ) (before : S)
+    (answer : Result Block Refusal) (others : List (ℕ × Block)) (is : RawArenaView) (after : S) : Type 0 where
   pub refusal : Refusal
   pub answer_is : answer ≡ Err refusal
   pub cause : EnterRefused names name words refusal
@@ -47,8 +47,8 @@ pub record IsNotNamed {S : Type 0} (names : List (ℕ × Block)) (was : RawView)
 
 -- The name is new, the arena is asked, and the block that it answers gets the name.
 pub record AsksNamed {S : Type 0} (grew : GrowRelation S) (took : TakeRelation S) (policy : Policy)
-    (names : List (ℕ × Block)) (was : RawView) (name words : ℕ) (before : S) (answer : Result Block Refusal)
-    (others : List (ℕ × Block)) (is : RawView) (after : S) : Type 0 where
+    (names : List (ℕ × Block)) (was : RawArenaView) (name words : ℕ) (before : S) (answer : Result Block Refusal)
+    (others : List (ℕ × Block)) (is : RawArenaView) (after : S) : Type 0 where
   pub unused : named names name ≡ None
   pub names_are : others ≡ names_after names name answer
   pub allocates : (live : List (ℕ × List ℕ))
@@ -57,8 +57,8 @@ pub record AsksNamed {S : Type 0} (grew : GrowRelation S) (took : TakeRelation S
   pub unchanged : OnErr answer (IsSameRaw was is)
 
 -- An allocation of so many words in an arena, under a name.
-abbrev pub AllocatesNamed : {S : Type 0} → GrowRelation S → TakeRelation S → Policy → List (ℕ × Block) → RawView
-    → ℕ → ℕ → S → Result Block Refusal → List (ℕ × Block) → RawView → S → Type 0
+abbrev pub AllocatesNamed : {S : Type 0} → GrowRelation S → TakeRelation S → Policy → List (ℕ × Block) → RawArenaView
+    → ℕ → ℕ → S → Result Block Refusal → List (ℕ × Block) → RawArenaView → S → Type 0
 AllocatesNamed grew took policy names was name words before answer others is after =
     IsNotNamed names was name words before answer others is after
     ⊎ AsksNamed grew took policy names was name words before answer others is after

@@ -15,12 +15,12 @@ pub record TableView : Type 0 where
 abbrev pub no_block : Block
 no_block = record { start = 0; words = 0 }
 
--- The block at a place of a list, and of a name in a list from a first name on.
-abbrev pub at_place : List Block → ℕ → Block
-at_place row place = slice_index_or row place no_block
+-- The block at a slot of a list, and of a name in a list from a first name on.
+abbrev pub at_slot : List Block → ℕ → Block
+at_slot row slot = slice_index_or row slot no_block
 
 abbrev pub in_row : ℕ → List Block → ℕ → Block
-in_row first row name = cond (nat_lt name first) no_block (at_place row (name - first))
+in_row first row name = cond (nat_lt name first) no_block (at_slot row (name - first))
 
 -- The block, or what stands elsewhere where it has no words.
 abbrev pub unless_none : Block → Option Block → Option Block
@@ -33,9 +33,9 @@ block_in first row others name = unless_none (in_row first row name) (lookup (na
 abbrev pub block_of : TableView → ℕ → Option Block
 block_of table name = block_in table.first table.row table.others name
 
--- A name has a place in a list from a first name on.
-abbrev pub HasPlace : ℕ → List Block → ℕ → Type 0
-HasPlace first row name = (first ≤ name) × (name < first + length row)
+-- A name has a slot in a list from a first name on.
+abbrev pub HasSlot : ℕ → List Block → ℕ → Type 0
+HasSlot first row name = (first ≤ name) × (name < first + length row)
 
 -- All names have the blocks that they had.
 abbrev pub StayNamed : TableView → TableView → Type 0

@@ -10,10 +10,10 @@ ghost use Rattle.ms_loaders.specs.CallEvents.{PurgesAreEvents, TotalsAreEvents, 
 ghost use Rattle.ms_loaders.specs.CallEvents.{OpensAreEvents, TakesAreEvents, GrowsAreEvents};
 
 /// Says what spreads of steps over events come to: from a good state the state is good after each
-/// event, no loader's event changes what is another's, and the steps in the order of their places
-/// are a run of the machine with the same replies, from the same first state to the same last. With
-/// no account left each reserved root is one free part, and nothing is committed unless the policy
-/// keeps it.
+/// event, no loader's event changes what is another's, and the steps in the order of their
+/// positions are a run of the machine with the same replies, from the same first state to the same
+/// last. With no account left each reserved root is one free part, and nothing is committed unless
+/// the policy keeps it.
 pub fn events()
     ensures serial { SpreadsAreSerial }
     ensures given_back { NoLoaderHoldsNothing }

@@ -1,9 +1,9 @@
 //! Loaders in order of name.
 //!
-//!     5 ──── box of 5 and its loader        a loader stands at its name's place; it stays where it is,
+//!     5 ──── box of 5 and its loader        a loader stands at its name's slot; it stays where it is,
 //!     7 ──── box of 7 and its loader        from `insert` until it is taken out
 //!
-//! So names need no search, and a walk over the places gives them in order. Kept true: each loader
+//! So names need no search, and a walk over the slots gives them in order. Kept true: each loader
 //! stands at its name, none below `first`, and there are `count`. Beside them are notes that guess
 //! a loader's name from an owner number (`owners`), of which nothing is kept true, and loaders that
 //! were unloaded wait to start anew (`spares`). Apart from the system so that loaders can be handed
@@ -25,7 +25,7 @@ ghost use Rattle.ms_loaders.specs.Used.{used_at};
 mod boxed;
 mod owners;
 mod page;
-mod places;
+mod slots;
 mod spares;
 mod walks;
 
@@ -35,7 +35,7 @@ use boxed::Boxed;
 use ms_base::{Kind, Refusal};
 use ms_pool::Account;
 use owners::Owners;
-use places::Places;
+use slots::Slots;
 use spares::Spares;
 use std::alloc::{AllocError, Global};
 use std::marker::Model;
@@ -46,7 +46,7 @@ pub struct Loaders {
     // Where the boxes and the pages come from.
     alloc: Global,
     // Each loader at its name.
-    places: Places,
+    slots: Slots,
     // No loader stands below.
     first: usize,
     // How many there are.
@@ -62,7 +62,7 @@ impl Drop for Loaders {
     fn drop(self) {
         let Loaders {
             alloc: _,
-            places: _,
+            slots: _,
             first: _,
             count: _,
             owners: _,
@@ -74,13 +74,13 @@ impl Drop for Loaders {
 impl Model for Loaders {
     ghost use Rattle.std.specs.Prelude.{ℕ, List};
     ghost use Rattle.ms_loaders.specs.Loader.{LoaderView};
-    ghost use Rattle.ms_loaders.specs.Places.{AreKept, rest_of};
+    ghost use Rattle.ms_loaders.specs.Slots.{AreKept, rest_of};
 
     ghost Value = { List (ℕ × LoaderView) };
 
-    ghost view = { λ loaders. rest_of loaders.places 0 };
+    ghost view = { λ loaders. rest_of loaders.slots 0 };
 
-    ghost invariant = { λ loaders. AreKept loaders.places loaders.first loaders.count };
+    ghost invariant = { λ loaders. AreKept loaders.slots loaders.first loaders.count };
 }
 
 impl Loaders {
@@ -90,7 +90,7 @@ impl Loaders {
     {
         Loaders {
             alloc,
-            places: Places::new(alloc),
+            slots: Slots::new(alloc),
             first: usize::MAX,
             count: 0,
             owners: Owners::new(alloc),
@@ -138,7 +138,7 @@ impl Loaders {
     fn make_room(&mut self, owner: u32) -> Result<(), AllocError>
         ensures { self.new ≡ self.old }
     {
-        self.owners.reserve(owner, &self.places)?;
+        self.owners.reserve(owner, &self.slots)?;
         self.spares.reserve(self.count + 1)
     }
 
@@ -152,7 +152,7 @@ impl Loaders {
         ensures back { IfErr result (λ back. back ≡ boxed) }
         ensures unchanged { OnErr result (self.new ≡ self.old) }
     {
-        match self.places.put(self.alloc, name, boxed) {
+        match self.slots.put(self.alloc, name, boxed) {
             Ok(()) => {
                 self.owners.note(owner, name);
                 self.first = self.first.min(usize::from(name));
@@ -170,7 +170,7 @@ impl Loaders {
         ensures none { IfNone result (named self.old name ≡ None) }
         ensures rest { self.new ≡ without self.old name }
     {
-        match self.places.take(name) {
+        match self.slots.take(name) {
             Some(boxed) => {
                 self.count -= 1;
                 Some(boxed)
@@ -181,7 +181,7 @@ impl Loaders {
 
     /// Takes the loader of a name out and apart, where there is one, and gives its accounts back,
     /// the class space's last; the others stay. It is kept to start anew where it is small and
-    /// there is place. Takes no memory.
+    /// there is room. Takes no memory.
     pub(crate) fn close(&mut self, name: u16) -> Option<(Account, Account)>
         ensures found { IfSome result (AreAccountsAt self.old name) }
         ensures none { IfNone result (named self.old name ≡ None) }
@@ -262,11 +262,11 @@ impl Loaders {
         ensures first { IfSome result (λ taken. self.old ≡ taken ∷ self.new) }
         ensures none { result ≡ None → (self.old ≡ []) × (self.new ≡ []) }
     {
-        let least = match self.places.next(self.first) {
+        let least = match self.slots.next(self.first) {
             Some((_, boxed)) => *boxed.name(),
             None => return None,
         };
-        match self.places.take(least) {
+        match self.slots.take(least) {
             Some(boxed) => {
                 self.first = usize::from(least);
                 self.count -= 1;
@@ -285,14 +285,14 @@ impl Loaders {
         ensures* writes_back { sem 𝓛 (LendsLoader self.entry name result) }
         ensures found { option_copied_mut result ≡ named self.old name }
     {
-        self.places.get_mut(name)
+        self.slots.get_mut(name)
     }
 
     /// Lends the loader of a name to read, where there is one. Takes no memory.
     pub fn get(&self, name: u16) -> Option<&Loader>
         ensures { option_copied result ≡ named self.now name }
     {
-        match self.places.get(name) {
+        match self.slots.get(name) {
             Some(boxed) => Some(boxed.loader()),
             None => None,
         }
@@ -359,14 +359,14 @@ impl Loaders {
         ensures all { result ≡ values_of self.now }
         ensures names { AreNamed self.now }
     {
-        Values::over(&self.places)
+        Values::over(&self.slots)
     }
 
     /// Goes over the loaders with their names, in order of name. Takes no memory.
     pub fn iter(&self) -> Iter<'_>
         ensures { result ≡ self.now }
     {
-        Iter::over(&self.places)
+        Iter::over(&self.slots)
     }
 }
 

@@ -11,7 +11,7 @@ ghost use Rattle.ms_arena.specs.Raw.{raw_account};
 ghost use Rattle.ms_pool.specs.Source.{LeavesRest};
 ghost use Rattle.ms_base.specs.Hashed.{by_name};
 ghost use Rattle.ms_loaders.specs.Naming.{AllocatesNamed, NamedRefused};
-ghost use Rattle.ms_loaders.specs.Table.{HasPlace, entries_of};
+ghost use Rattle.ms_loaders.specs.Table.{HasSlot, entries_of};
 
 mod finding;
 mod small_block;
@@ -102,13 +102,13 @@ pub fn allocate_in<S: ChunkSource>(
 {
     let many = arena.expects_many();
     let mut refused = false;
-    if names.table.make_place(name, many, &mut refused) {
+    if names.table.make_slot(name, many, &mut refused) {
         return allocate_in_row(&mut names.table, arena, source, name, words);
     }
     allocate_beside(&mut names.table.others, arena, source, name, words, refused)
 }
 
-/// Allocates a block whose name has a place in the row.
+/// Allocates a block whose name has a slot in the row.
 #[inline(always)]
 fn allocate_in_row<S: ChunkSource>(
     table: &mut Table,
@@ -118,7 +118,7 @@ fn allocate_in_row<S: ChunkSource>(
     words: u64,
 ) -> Result<Block, Refusal>
     requires served { S.serves source.old (raw_account arena.old) }
-    requires place { HasPlace table.old.first table.old.row name }
+    requires slot { HasSlot table.old.first table.old.row name }
     ensures served { S.serves source.new (raw_account arena.new) }
     ensures rest { LeavesRest S.serves S.opened S.limits arena.old.owner source.old source.new }
     ensures allocates { AllocatesNamed S.grew S.took (S.limits source.old).policy (by_name (entries_of table.old))

@@ -91,7 +91,7 @@ cells_together cells =
 
 abbrev pub CellsAddUp : Type 0
 CellsAddUp =
-    (roots : List RootMap) → All (λ (root : RootMap). length root.places ≡ 64) roots → 64 * length roots < 2 ^ 64
+    (roots : List RootMap) → All (λ (root : RootMap). length root.cells ≡ 64) roots → 64 * length roots < 2 ^ 64
     → cells_together (cell_counts roots) ≡ 64 * length roots
 
 -- Nothing of a text begins a tag, ends one, or ends an attribute.

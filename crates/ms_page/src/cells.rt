@@ -1,15 +1,15 @@
 //! The cells of the map, by what becomes of them, and the nodes that hold no chunk.
 //!
-//! A cell is a place of 64 KB of a root. Kept true: each number is exactly that of the cells of the
+//! A cell is 64 KB of a root. Kept true: each number is exactly that of the cells of the
 //! state, over all roots. Takes no memory.
 ghost use Rattle.std.specs.Prelude.{◌≡◌, count_by};
 ghost use Rattle.std.specs.List.{list_all, list_any};
 ghost use Rattle.ms_page.specs.Cells.{cell_counts, cells_of, empty_nodes, is_bare, is_empty_node};
-ghost use Rattle.ms_page.specs.Cells.{is_free, is_of_node, same_place, spares_node};
+ghost use Rattle.ms_page.specs.Cells.{is_free, is_of_node, same_cell, spares_node};
 
 use crate::sums::add;
 use ms_base::SLOTS;
-use ms_pool::{Place, RootMap};
+use ms_pool::{Cell, RootMap};
 
 /// How many cells of 64 KB there are of each state, over all roots. This project's choice.
 #[derive(Clone, Copy, Debug, PartialEq, Eq)]
@@ -31,40 +31,37 @@ pub(crate) fn count_cells(roots: &[RootMap]) -> CellCounts
     ensures { result ≡ cell_counts roots.now }
 {
     CellCounts {
-        free: count(Place::Free, roots),
-        free_committed: count(Place::FreeCommitted, roots),
-        lent_uncommitted: count(Place::LentUncommitted, roots),
-        lent_partly: count(Place::LentPartly, roots),
-        lent_wholly: count(Place::LentWholly, roots),
+        free: count(Cell::Free, roots),
+        free_committed: count(Cell::FreeCommitted, roots),
+        lent_uncommitted: count(Cell::LentUncommitted, roots),
+        lent_partly: count(Cell::LentPartly, roots),
+        lent_wholly: count(Cell::LentWholly, roots),
     }
 }
 
 /// Counts the cells of a state.
-fn count(place: Place, roots: &[RootMap]) -> u64
-    ensures { result ≡ cells_of place roots.now }
+fn count(cell: Cell, roots: &[RootMap]) -> u64
+    ensures { result ≡ cells_of cell roots.now }
 {
     let mut cells = 0;
     for root in roots {
-        cells = add(cells, count_in(place, &root.places));
+        cells = add(cells, count_in(cell, &root.cells));
     }
     cells
 }
 
 /// Counts the cells of a state in a root.
-fn count_in(place: Place, places: &[Place]) -> u64
-    ensures { result ≡ count_by (same_place place) places.now }
+fn count_in(cell: Cell, cells: &[Cell]) -> u64
+    ensures { result ≡ count_by (same_cell cell) cells.now }
 {
-    places
-        .iter()
-        .filter(|other| is_same(place, **other))
-        .count() as u64
+    cells.iter().filter(|other| is_same(cell, **other)).count() as u64
 }
 
 /// Says whether two cells are of the same state.
-fn is_same(place: Place, other: Place) -> bool
-    ensures { result ≡ same_place place other }
+fn is_same(cell: Cell, other: Cell) -> bool
+    ensures { result ≡ same_cell cell other }
 {
-    place == other
+    cell == other
 }
 
 /// Counts the nodes outside the class space that hold no chunk.
@@ -101,7 +98,7 @@ fn is_spared(roots: &[RootMap], slot: u32) -> bool
 fn spares_node(slot: u32, root: &RootMap) -> bool
     ensures { result ≡ spares_node slot root.now }
 {
-    !is_of_node(slot, root) || is_bare(&root.places)
+    !is_of_node(slot, root) || is_bare(&root.cells)
 }
 
 /// Says whether a root is one of the two of a slot's node.
@@ -112,18 +109,18 @@ fn is_of_node(slot: u32, root: &RootMap) -> bool
 }
 
 /// Says whether no cell is lent.
-fn is_bare(places: &[Place]) -> bool
-    ensures { result ≡ is_bare places.now }
+fn is_bare(cells: &[Cell]) -> bool
+    ensures { result ≡ is_bare cells.now }
 {
-    places.iter().all(|place| is_free(*place))
+    cells.iter().all(|cell| is_free(*cell))
 }
 
 /// Says whether no word of a cell is lent.
-fn is_free(place: Place) -> bool
-    ensures { result ≡ is_free place }
+fn is_free(cell: Cell) -> bool
+    ensures { result ≡ is_free cell }
 {
-    match place {
-        Place::Free | Place::FreeCommitted => true,
-        Place::LentUncommitted | Place::LentPartly | Place::LentWholly => false,
+    match cell {
+        Cell::Free | Cell::FreeCommitted => true,
+        Cell::LentUncommitted | Cell::LentPartly | Cell::LentWholly => false,
     }
 }

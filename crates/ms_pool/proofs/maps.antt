@@ -1,5 +1,5 @@
--- The map of a root: what its leaves say of a place, and what they say of it in the pool.
+-- The map of a root: what its leaves say of a cell, and what they say of it in the pool.
 pub mod FoundLemmas
-pub mod PlaceLemmas
+pub mod CellLemmas
 pub mod RootMapLemmas
 pub mod AlikeMapLemmas

@@ -68,7 +68,7 @@ Took old account wanted most words (Ok span) new = Lends old account wanted most
 Took old account wanted most words (Err refusal) new = TakeRefused old account wanted most words refusal new
 
 -- A chunk of the account is asked to reach so many words in all: it grows, or there is no room in
--- its place, or the granules that it lacks pass the limit.
+-- its span, or the granules that it lacks pass the limit.
 abbrev pub GrewFrom : Ledger → AccountState → Chunk → ℕ → Bool → Result Span Refusal → Ledger → Type 0
 GrewFrom old account chunk total may_enlarge (Ok span) new =
     (greater : Chunk) × (grown (state_in account.space old) chunk total may_enlarge ≡ Ok greater)
@@ -84,9 +84,9 @@ GrewFrom old account chunk total may_enlarge (Err _) new = ⊥
 -- So it is for the chunk that starts there.
 pub record Grew (old : Ledger) (account : AccountState) (start total : ℕ) (may_enlarge : Bool)
     (answer : Result Span Refusal) (new : Ledger) : Type 0 where
-  pub place : ℕ
+  pub index : ℕ
   pub chunk : Chunk
-  pub found : slice_get account.chunks place ≡ Some chunk
+  pub found : slice_get account.chunks index ≡ Some chunk
   pub starts : chunk.start ≡ start
   pub after : GrewFrom old account chunk total may_enlarge answer new
 

@@ -13,7 +13,7 @@ use Rattle.ms_pool.specs.Account.{AccountState}
 abbrev pub span_of : Chunk → Span
 span_of chunk = record { start = chunk.start; level = chunk.level }
 
--- The chunk of a place, with a front for so many words.
+-- The chunk of a span, with a front for so many words.
 abbrev pub chunk_at : Policy → Span → ℕ → Chunk
 chunk_at policy span words =
     record { start = span.start; level = span.level; front = front_for policy (size_of span.level) words }
@@ -33,7 +33,7 @@ pub record Adds (policy : Policy) (wanted most words : ℕ) (old : AccountState)
   pub at_most : span.level ≤ most
   pub after : new ≡ record old { chunks = old.chunks ++ chunk_at policy span words ∷ [] }
 
--- The parent of a leader, as a place.
+-- The parent of a leader, as a span.
 abbrev pub parent_of : Chunk → Span
 parent_of chunk = record { start = chunk.start; level = chunk.level - 1 }
 
@@ -56,10 +56,10 @@ pub record MayBeParent (chunk : Chunk) (total : ℕ) (may_enlarge : Bool) : Type
 -- The chunk that starts there reaches so many words, in its place among the others.
 pub record Grows (policy : Policy) (start total : ℕ) (may_enlarge : Bool) (old : AccountState)
     (span : Span) (new : AccountState) : Type 0 where
-  pub place : ℕ
+  pub index : ℕ
   pub chunk : Chunk
-  pub found : slice_get old.chunks place ≡ Some chunk
+  pub found : slice_get old.chunks index ≡ Some chunk
   pub starts : chunk.start ≡ start
   pub enlarged : size_of chunk.level < total → MayBeParent chunk total may_enlarge
   pub answer : span ≡ span_of (reaching policy chunk total)
-  pub after : new ≡ record old { chunks = slice_set old.chunks place (reaching policy chunk total) }
+  pub after : new ≡ record old { chunks = slice_set old.chunks index (reaching policy chunk total) }

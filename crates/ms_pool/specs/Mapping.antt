@@ -1,5 +1,5 @@
--- The map of a root chunk: what becomes of each of its places (after HotSpot's VM.metaspace vsmap;
--- the places are this project's choice).
+-- The map of a root chunk: what becomes of each of its cells (after HotSpot's VM.metaspace vsmap;
+-- the cells are this project's choice).
 use Rattle.std.specs.Prelude.{◌≡◌, ◌<◌, ℕ, ◌+◌, ◌*◌, Bool, false, not, ◌&&◌, ◌||◌, if◌then◌else◌, List, [], ◌∷◌, get_or, map}
 use Rattle.std.specs.List.{list_any, flat_map, range_with_len}
 use Rattle.ms_base.specs.declared.span.Chunk.{Chunk}
@@ -11,17 +11,17 @@ use Rattle.ms_base.specs.Policy.{granule_of}
 use Rattle.ms_base.specs.Committed.{granules_meeting, is_among}
 use Rattle.ms_base.specs.State.{PoolState}
 use Rattle.ms_buddy.specs.Leaves.{LentLeaf, chunk_of, free_of, words_of}
-use Rattle.ms_pool.specs.declared.mapping.Place.{Place}
-use Rattle.ms_pool.specs.declared.mapping.Place.TheVariants.{Free, FreeCommitted}
-use Rattle.ms_pool.specs.declared.mapping.Place.TheVariants.{LentUncommitted, LentPartly, LentWholly}
+use Rattle.ms_pool.specs.declared.mapping.Cell.{Cell}
+use Rattle.ms_pool.specs.declared.mapping.Cell.TheVariants.{Free, FreeCommitted}
+use Rattle.ms_pool.specs.declared.mapping.Cell.TheVariants.{LentUncommitted, LentPartly, LentWholly}
 use Rattle.ms_pool.specs.declared.mapping.RootMap.{RootMap}
 
--- A root has 64 places of 8192 words.
-abbrev pub place_words : ℕ
-place_words = 8192
+-- A root has 64 cells of 8192 words.
+abbrev pub cell_words : ℕ
+cell_words = 8192
 
-abbrev pub root_places : ℕ
-root_places = 64
+abbrev pub root_cells : ℕ
+root_cells = 64
 
 -- A chunk has one of so many words from the start on, and a part has one.
 abbrev pub meets_lent : List Chunk → ℕ → ℕ → Bool
@@ -30,66 +30,66 @@ meets_lent chunks start words = list_any (λ chunk. meet chunk.start (size_of ch
 abbrev pub meets_free : List Span → ℕ → ℕ → Bool
 meets_free parts start words = list_any (λ part. meet part.start (size_of part.level) start words) parts
 
--- What a place is: whether a chunk that is lent has a word of it, a free part has one, and a
+-- What a cell is: whether a chunk that is lent has a word of it, a free part has one, and a
 -- committed granule has one.
-abbrev pub place_by : Bool → Bool → Bool → Place
-place_by lent free committed =
+abbrev pub cell_by : Bool → Bool → Bool → Cell
+cell_by lent free committed =
     if lent then (if committed then (if free then LentPartly else LentWholly) else LentUncommitted)
     else (if committed then FreeCommitted else Free)
 
--- Where a place of a root starts.
-abbrev pub place_start : ℕ → ℕ → ℕ
-place_start root number = number * place_words + root * root_words
+-- Where a cell of a root starts.
+abbrev pub cell_start : ℕ → ℕ → ℕ
+cell_start root number = number * cell_words + root * root_words
 
--- A committed granule has a word of the place.
+-- A committed granule has a word of the cell.
 abbrev pub is_committed_in : PoolState → ℕ → Bool
 is_committed_in pool start =
-    list_any (is_among pool.committed) (granules_meeting (granule_of pool.limits.policy) start place_words)
+    list_any (is_among pool.committed) (granules_meeting (granule_of pool.limits.policy) start cell_words)
 
--- What a place of a root is, by the chunks that are lent there, the root's free parts and the
+-- What a cell of a root is, by the chunks that are lent there, the root's free parts and the
 -- committed granules.
-abbrev pub place_in : PoolState → ℕ → ℕ → Place
-place_in pool root number =
-    place_by (meets_lent pool.held (place_start root number) place_words)
-    (meets_free (free_within pool.held highest_level (root * root_words)) (place_start root number) place_words)
-    (is_committed_in pool (place_start root number))
+abbrev pub cell_in : PoolState → ℕ → ℕ → Cell
+cell_in pool root number =
+    cell_by (meets_lent pool.held (cell_start root number) cell_words)
+    (meets_free (free_within pool.held highest_level (root * root_words)) (cell_start root number) cell_words)
+    (is_committed_in pool (cell_start root number))
 
--- A root's number and its places in order of address.
-pub record RootPlaces : Type 0 where
+-- A root's number and its cells in order of address.
+pub record RootCells : Type 0 where
   pub root : ℕ
-  pub places : List Place
+  pub cells : List Cell
 
-unfoldable pub map_of : PoolState → ℕ → RootPlaces
-map_of pool root = record { root = root; places = map (place_in pool root) (range_with_len 0 root_places) }
+unfoldable pub map_of : PoolState → ℕ → RootCells
+map_of pool root = record { root = root; cells = map (cell_in pool root) (range_with_len 0 root_cells) }
 
 -- The maps of both roots of each slot that is reserved.
-abbrev pub maps_of_slot : PoolState → ℕ → List RootPlaces
+abbrev pub maps_of_slot : PoolState → ℕ → List RootCells
 maps_of_slot pool slot = map_of pool (2 * slot) ∷ map_of pool (2 * slot + 1) ∷ []
 
-unfoldable pub maps_of : PoolState → List RootPlaces
+unfoldable pub maps_of : PoolState → List RootCells
 maps_of pool = flat_map (maps_of_slot pool) pool.slots
 
 -- What a map tells.
-abbrev pub map_in : RootMap → RootPlaces
-map_in told = record { root = told.root; places = told.places }
+abbrev pub map_in : RootMap → RootCells
+map_in told = record { root = told.root; cells = told.cells }
 
--- The words of a place of a root that begins at word 0.
-abbrev pub place_of : ℕ → ℕ × ℕ
-place_of number = (number * place_words, place_words)
+-- The words of a cell of a root that begins at word 0.
+abbrev pub words_of_cell : ℕ → ℕ × ℕ
+words_of_cell number = (number * cell_words, cell_words)
 
--- What is told of the places of a root by the leaves of its tree: whether each meets a lent one,
+-- What is told of the cells of a root by the leaves of its tree: whether each meets a lent one,
 -- and a free one.
 pub record AreFound (leaves : List LentLeaf) (is_lent is_free : List Bool) : Type 0 where
-  pub lent : (number : ℕ) → number < root_places
-      → get_or is_lent number false ≡ meets_lent (map chunk_of leaves) (number * place_words) place_words
-  pub free : (number : ℕ) → number < root_places
-      → get_or is_free number false ≡ meets_free (free_of leaves) (number * place_words) place_words
+  pub lent : (number : ℕ) → number < root_cells
+      → get_or is_lent number false ≡ meets_lent (map chunk_of leaves) (number * cell_words) cell_words
+  pub free : (number : ℕ) → number < root_cells
+      → get_or is_free number false ≡ meets_free (free_of leaves) (number * cell_words) cell_words
 
--- What a free leaf changes of it: a place that lies in the leaf isn't lent, and one that meets it
+-- What a free leaf changes of it: a cell that lies in the leaf isn't lent, and one that meets it
 -- is free.
 pub record AreNoted (part : Span) (was_lent was_free is_lent is_free : List Bool) : Type 0 where
-  pub lent : (number : ℕ) → number < root_places
-      → get_or is_lent number false ≡ (get_or was_lent number false && not (lies_in (place_of number) (words_of part)))
-  pub free : (number : ℕ) → number < root_places
+  pub lent : (number : ℕ) → number < root_cells
+      → get_or is_lent number false ≡ (get_or was_lent number false && not (lies_in (words_of_cell number) (words_of part)))
+  pub free : (number : ℕ) → number < root_cells
       → get_or is_free number false
-      ≡ (get_or was_free number false || meet part.start (size_of part.level) (number * place_words) place_words)
+      ≡ (get_or was_free number false || meet part.start (size_of part.level) (number * cell_words) cell_words)

@@ -1,4 +1,4 @@
--- What has to hold of a chunk before it has its place: in the trees of the roots, and in the pool.
+-- What has to hold of a chunk before it has its span: in the trees of the roots, and in the pool.
 use Rattle.std.specs.Prelude.{◌≡◌, ◌<◌, ◌≤◌, ◌⊎◌, ℕ, ◌+◌, ◌*◌, ◌/◌, ◌%◌, IsTrue, List, [], get_or, length}
 use Rattle.std.specs.List.{All}
 use Rattle.ms_base.specs.declared.kind.Space.{Space}

@@ -8,19 +8,19 @@ use Rattle.ms_buddy.specs.Leaves.{LentLeaf, AreLeaves, covers, free_of}
 use Rattle.ms_pool.specs.Keeping.{loans_from}
 use Rattle.ms_pool.specs.Ledger.{Loan, Ledger, recommitted}
 
--- The loan is of the chunk's place.
+-- The loan is of the chunk's span.
 abbrev pub is_at : Chunk → Loan → Bool
 is_at chunk loan = (loan.chunk.start == chunk.start) && (loan.chunk.level == chunk.level)
 
--- A loan is of the chunk's place.
+-- A loan is of the chunk's span.
 abbrev pub is_lent_in : List Loan → Chunk → Bool
 is_lent_in loans chunk = list_any (is_at chunk) loans
 
--- The loans but that of the chunk's place.
+-- The loans but that of the chunk's span.
 abbrev pub without_loan : Chunk → List Loan → List Loan
 without_loan chunk loans = filter (λ loan. not (is_at chunk loan)) loans
 
--- The trees have taken the chunk back, and its place lies in that free leaf.
+-- The trees have taken the chunk back, and its span lies in that free leaf.
 pub record TakesBack (old : List (List LentLeaf)) (chunk : Chunk) (part : Span)
     (new : List (List LentLeaf)) : Type 0 where
   pub loans : loans_from 0 new ≡ without_loan chunk (loans_from 0 old)

@@ -79,12 +79,12 @@ impl Account {
         self.chunks.len() as u32
     }
 
-    /// Returns a chunk by its place in the order taken, from 0 on. Takes no memory.
-    pub fn chunk(&self, place: u32) -> Chunk
-        requires { place < length self.now.chunks }
-        ensures { slice_get self.now.chunks place ≡ Some result }
+    /// Returns a chunk by its index in the order taken, from 0 on. Takes no memory.
+    pub fn chunk(&self, index: u32) -> Chunk
+        requires { index < length self.now.chunks }
+        ensures { slice_get self.now.chunks index ≡ Some result }
     {
-        self.chunks[place as usize]
+        self.chunks[index as usize]
     }
 
     /// Returns the owner's number, 1 to 4294967295, or 0 where the account is closed. Takes no

@@ -9,7 +9,7 @@
 //! Kept true: there are as many trees as roots may be reserved, the leaves of each are lent in
 //! reserved slots, the committed granules are those that a front of a lent leaf meets, and the
 //! lent chunks of each space are counted (`lent`). What callers see is a `Ledger`,
-//! `specs/Keeping.antt`. The trees' places are made once, so a node that is reserved takes no
+//! `specs/Keeping.antt`. The trees' room is made once, so a node that is reserved takes no
 //! memory.
 ghost use Rattle.std.specs.Prelude.{◌≡◌, ◌+◌, ◌*◌, ◌<◌, ◌≤◌, ◌^◌, IfOk, length, not};
 ghost use Rattle.std.specs.List.{All};

@@ -224,8 +224,8 @@ impl Lender {
         ensures holds { AreChunks account.new.space account.new.chunks }
     {
         let space = account.space;
-        let place = place_of(&account.chunks, start);
-        let chunk = account.chunks[place];
+        let index = index_of(&account.chunks, start);
+        let chunk = account.chunks[index];
         if total <= chunk.front {
             return Ok(span_of(&chunk));
         }
@@ -241,7 +241,7 @@ impl Lender {
         self.replace(space, &chunk, &greater, need);
         self.lent.replace(space, &chunk, &greater);
         let span = span_of(&greater);
-        account.chunks[place] = greater;
+        account.chunks[index] = greater;
         Ok(span)
     }
 
@@ -301,8 +301,8 @@ impl Lender {
         ensures kept { IsKept self.new }
         ensures counted { IsCounted self.new }
     {
-        for place in 0..account.held() {
-            self.release(account.chunk(place));
+        for index in 0..account.held() {
+            self.release(account.chunk(index));
         }
         self.lent.take_out(account);
         match account.space() {
@@ -348,16 +348,16 @@ impl Lender {
     }
 }
 
-/// The place of the chunk that starts there, looked for from the last one on: an arena grows that.
-fn place_of(chunks: &[Chunk], start: u64) -> usize
+/// The index of the chunk that starts there, looked for from the last one on: an arena grows that.
+fn index_of(chunks: &[Chunk], start: u64) -> usize
     requires { IsTrue (has_chunk_at chunks.now start) }
     ensures there { result < length chunks.now }
     ensures starts { IfSome (slice_get chunks.now result) (λ chunk. chunk.start ≡ start) }
 {
     for later in 0..chunks.len() {
-        let place = chunks.len() - 1 - later;
-        if chunks[place].start == start {
-            return place;
+        let index = chunks.len() - 1 - later;
+        if chunks[index].start == start {
+            return index;
         }
     }
     unreachable!()
@@ -373,7 +373,7 @@ fn span_of(chunk: &Chunk) -> Span
     }
 }
 
-/// The chunk of a place, with a front for so many words.
+/// The chunk of an index, with a front for so many words.
 fn chunk_at(policy: Policy, start: u64, level: Level, words: u64) -> Chunk
     requires { words ≤ root_words }
     ensures { result

@@ -145,7 +145,7 @@ fn discount_chunks(counted: &mut Counted, account: &Account)
     requires { HaveLeast counted.old account.now.chunks }
     ensures { Moves counted.old account.now.chunks [] counted.new }
 {
-    for place in 0..account.held() {
-        discount_chunk(counted, &account.chunk(place));
+    for index in 0..account.held() {
+        discount_chunk(counted, &account.chunk(index));
     }
 }

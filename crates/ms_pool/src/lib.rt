@@ -23,7 +23,7 @@ mod totals;
 mod trees;
 
 pub use account::Account;
-pub use mapping::{Place, RootMap};
+pub use mapping::{Cell, RootMap};
 pub use no_chunks::NoChunks;
 pub use pool::{LimitCounts, Pool};
 pub use source::{AccountSource, ChunkSource};

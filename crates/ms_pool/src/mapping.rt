@@ -1,16 +1,16 @@
-//! The map of a root chunk: where it is lent and committed, place by place.
+//! The map of a root chunk: where it is lent and committed, cell by cell.
 //!
-//!     place    0     1     2     3     4     5          63
+//!     cell     0     1     2     3     4     5          63
 //!           +-----+-----+-----+-----+-----+-----+- .. -+-----+
 //!     lent  |#####|#####|#####|##   |     |     |      |     |
 //!           +-----+-----+-----+-----+-----+-----+- .. -+-----+
 //!     granule  x     x           x     x
 //!     told     O     O     u     o     .     -           -
 //!
-//! A place has 8192 words, as a granule has, or as four have under policy aggressive: it is
+//! A cell has 8192 words, as a granule has, or as four have under policy aggressive: it is
 //! committed where one of its granules is. Nothing is kept for a map: it is read from the free
 //! leaves of its root's tree, in one walk; what lies in none of them is lent. Only the list of all
-//! maps takes memory. After HotSpot's VM.metaspace vsmap; places and what is told of them are this
+//! maps takes memory. After HotSpot's VM.metaspace vsmap; cells and what is told of them are this
 //! project's choice.
 ghost use Rattle.std.specs.Prelude.{◌≡◌, ◌+◌, ◌*◌, ◌<◌, ◌≤◌, ◌^◌, ◌++◌, cond, [], get_or, map, OnOk};
 ghost use Rattle.ms_base.specs.Part.{IsPart, is_reserved};
@@ -19,8 +19,8 @@ ghost use Rattle.ms_base.specs.Spaces.{by_space, first_class_slot};
 ghost use Rattle.ms_commit.specs.Nodes.{all_slots};
 ghost use Rattle.ms_pool.specs.Keeping.{IsKept, IsRunOf, ledger_of};
 ghost use Rattle.ms_pool.specs.Ledger.{state_in};
-ghost use Rattle.ms_pool.specs.Mapping.{AreFound, AreNoted, is_committed_in, map_in, map_of, place_by, place_in};
-ghost use Rattle.ms_pool.specs.Mapping.{maps_of, maps_of_slot, place_words, root_places};
+ghost use Rattle.ms_pool.specs.Mapping.{AreFound, AreNoted, is_committed_in, map_in, map_of, cell_by, cell_in};
+ghost use Rattle.ms_pool.specs.Mapping.{maps_of, maps_of_slot, cell_words, root_cells};
 
 use crate::lender::Lender;
 use crate::search::granules_meeting;
@@ -28,15 +28,15 @@ use ms_base::{ROOT_WORDS, Space, Span, granule};
 use ms_buddy::PartTable;
 use std::alloc::{AllocError, Global};
 
-/// The words of a place.
-const PLACE_WORDS: u64 = 8192;
-/// The places of a root.
-const ROOT_PLACES: usize = 64;
+/// The words of a cell.
+const CELL_WORDS: u64 = 8192;
+/// The cells of a root.
+const ROOT_CELLS: usize = 64;
 
-/// What a place of 8192 words of a root is. It is committed where one of its granules is, and lent
+/// What a cell of 8192 words of a root is. It is committed where one of its granules is, and lent
 /// where a chunk that is lent has a word of it.
 #[derive(Clone, Copy, Debug, PartialEq, Eq)]
-pub enum Place {
+pub enum Cell {
     /// Neither lent nor committed.
     Free,
     /// Committed, and no word is lent.
@@ -49,36 +49,36 @@ pub enum Place {
     LentWholly,
 }
 
-/// What each place of a root is. The root's number, 0 to 159, is over both spaces, two roots a
+/// What each cell of a root is. The root's number, 0 to 159, is over both spaces, two roots a
 /// slot.
 #[derive(Clone, Copy, Debug, PartialEq, Eq)]
 pub struct RootMap {
     /// The root's number; its slot is half of it.
     pub root: u32,
-    /// The places, in order of address.
-    pub places: [Place; ROOT_PLACES],
+    /// The cells, in order of address.
+    pub cells: [Cell; ROOT_CELLS],
 }
 
-/// What leaves each place of a root meets.
+/// What leaves each cell of a root meets.
 #[derive(Clone, Copy)]
 struct Found {
     /// Whether a lent one.
-    lent: [bool; ROOT_PLACES],
+    lent: [bool; ROOT_CELLS],
     /// Whether a free one.
-    free: [bool; ROOT_PLACES],
+    free: [bool; ROOT_CELLS],
 }
 
-impl Place {
-    /// What a place is, by what has a word of it.
-    fn of(lent: bool, free: bool, committed: bool) -> Place
-        ensures { result ≡ place_by lent free committed }
+impl Cell {
+    /// What a cell is, by what has a word of it.
+    fn of(lent: bool, free: bool, committed: bool) -> Cell
+        ensures { result ≡ cell_by lent free committed }
     {
         match (lent, committed) {
-            (false, false) => Place::Free,
-            (false, true) => Place::FreeCommitted,
-            (true, false) => Place::LentUncommitted,
-            (true, true) if free => Place::LentPartly,
-            (true, true) => Place::LentWholly,
+            (false, false) => Cell::Free,
+            (false, true) => Cell::FreeCommitted,
+            (true, false) => Cell::LentUncommitted,
+            (true, true) if free => Cell::LentPartly,
+            (true, true) => Cell::LentWholly,
         }
     }
 }
@@ -95,10 +95,10 @@ impl Lender {
         let found = found_in(self.trees.tree(root as usize));
         let mut map = RootMap {
             root,
-            places: [Place::Free; ROOT_PLACES],
+            cells: [Cell::Free; ROOT_CELLS],
         };
-        for number in 0..ROOT_PLACES {
-            map.places[number] = self.place_in(space, root, number, &found);
+        for number in 0..ROOT_CELLS {
+            map.cells[number] = self.cell_in(space, root, number, &found);
         }
         map
     }
@@ -134,41 +134,41 @@ impl Lender {
         Ok(())
     }
 
-    /// Returns what a place of a root of the space is, by what was found in the root's tree.
-    fn place_in(&self, space: Space, root: u32, number: usize, found: &Found) -> Place
+    /// Returns what a cell of a root of the space is, by what was found in the root's tree.
+    fn cell_in(&self, space: Space, root: u32, number: usize, found: &Found) -> Cell
         requires kept { IsKept self.now }
         requires low { by_space space 0 (2 * first_class_slot) ≤ root }
         requires high { root
             < by_space space (2 * first_class_slot) (2 * (first_class_slot + self.now.nodes.class_slots)) }
-        requires within { number < root_places }
+        requires within { number < root_cells }
         requires found { AreFound (get_or self.now.trees.items root []) found.now.lent found.now.free }
-        ensures { result ≡ place_in (state_in space (ledger_of self.now)) root number }
+        ensures { result ≡ cell_in (state_in space (ledger_of self.now)) root number }
     {
-        let start = number as u64 * PLACE_WORDS + u64::from(root) * ROOT_WORDS;
+        let start = number as u64 * CELL_WORDS + u64::from(root) * ROOT_WORDS;
         let committed = self.has_granule(space, start);
-        Place::of(found.lent[number], found.free[number], committed)
+        Cell::of(found.lent[number], found.free[number], committed)
     }
 
-    /// Returns whether a granule of a place is committed.
+    /// Returns whether a granule of a cell is committed.
     fn has_granule(&self, space: Space, start: u64) -> bool
         requires kept { IsKept self.now }
-        requires inside { IsRunOf space start place_words }
-        requires fits { start + place_words < 2 ^ 63 }
+        requires inside { IsRunOf space start cell_words }
+        requires fits { start + cell_words < 2 ^ 63 }
         ensures { result ≡ is_committed_in (state_in space (ledger_of self.now)) start }
     {
-        let (first, count) = granules_meeting(granule(self.policy), start, PLACE_WORDS);
+        let (first, count) = granules_meeting(granule(self.policy), start, CELL_WORDS);
         self.nodes.missing(first, count) < count
     }
 }
 
-/// Returns what leaves each place of a root meets, in one walk over the free ones: at first all are
+/// Returns what leaves each cell of a root meets, in one walk over the free ones: at first all are
 /// lent.
 fn found_in(tree: &PartTable<Global>) -> Found
     ensures { AreFound tree.now result.lent result.free }
 {
     let mut found = Found {
-        lent: [true; ROOT_PLACES],
-        free: [false; ROOT_PLACES],
+        lent: [true; ROOT_CELLS],
+        free: [false; ROOT_CELLS],
     };
     for part in tree.free_leaves() {
         note(&mut found, part);
@@ -176,16 +176,16 @@ fn found_in(tree: &PartTable<Global>) -> Found
     found
 }
 
-/// Notes a free leaf: the places that it meets are free, and lent no more where they lie in it.
+/// Notes a free leaf: the cells that it meets are free, and lent no more where they lie in it.
 fn note(found: &mut Found, part: Span)
     requires placed { IsPart part.start part.level }
     requires within { part.start + size_of part.level ≤ root_words }
     ensures { AreNoted part found.old.lent found.old.free found.new.lent found.new.free }
 {
     let words = part.level.words();
-    let whole = PLACE_WORDS <= words;
-    let first = (part.start / PLACE_WORDS) as usize;
-    let end = ((part.start + words + (PLACE_WORDS - 1)) / PLACE_WORDS) as usize;
+    let whole = CELL_WORDS <= words;
+    let first = (part.start / CELL_WORDS) as usize;
+    let end = ((part.start + words + (CELL_WORDS - 1)) / CELL_WORDS) as usize;
     for number in first..end {
         found.lent[number] = found.lent[number] & !whole;
         found.free[number] = true;

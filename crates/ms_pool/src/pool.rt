@@ -54,7 +54,7 @@ impl Model for Pool {
 
 impl Pool {
     /// Makes a pool of which nothing was asked yet: the nodes of the class space are reserved, no
-    /// other, and no granule is committed. The places of all trees are made here, so reserving a
+    /// other, and no granule is committed. The room of all trees is made here, so reserving a
     /// node takes no memory. Takes memory, and fails only where that is refused.
     pub fn new(alloc: Global, settings: Settings) -> Result<Pool, AllocError>
         ensures { IfOk result (λ pool. pool ≡ empty_ledger (limits_of settings)) }

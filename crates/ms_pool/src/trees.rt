@@ -3,7 +3,7 @@
 //! Kept true: the index tells of each root exactly the levels of which the root's tree has a free
 //! leaf. A root that isn't reserved is whole, so it is told to have level 0, and whoever asks looks
 //! whether its slot is reserved. A change of a tree tells the levels of its root anew, where they
-//! are others. The places of trees and index are made once.
+//! are others. The room of trees and index is made once.
 ghost use Rattle.std.specs.Prelude.{◌≡◌, ℕ, ◌-◌, ◌/◌, ◌%◌, ◌<◌, ◌≤◌, false, [], get_or, length, replicate};
 ghost use Rattle.std.specs.Prelude.{IfOk, IfSome, IfNone, IsTrue, IsFalse, Some};
 ghost use Rattle.std.specs.List.{All, find};

@@ -20,7 +20,7 @@ use Rattle.ms_report.specs.Layout.{Table, cells, level_table, level_texts, loade
 pub digits_fit : (n : ℕ) → n < 2 ^ 64 → length (decimal n) ≤ 20
 digits_fit n small = length-decimal-le 20 n (omega arith) (omega (arith, small)) small
 
--- Bytes that are blank up to a place.
+-- Bytes that are blank up to an index.
 blank_front : (bytes : List ℕ) (end : ℕ) → take end bytes ≡ replicate end 32
     → bytes ≡ replicate end 32 ++ drop end bytes
 blank_front bytes end blank =
@@ -41,12 +41,12 @@ blank_from bytes from end low blank =
     ∙ drop-append-le from (replicate end 32) (drop end bytes) (omega (arith, length-replicate {A = ℕ} end 32, low))
     ∙ ap (λ (front : List ℕ). front ++ drop end bytes) (drop-replicate from end 32)
 
--- So digits with blank bytes before them are right in their places.
-pub digits_right : (new rest digits : List ℕ) (places from start : ℕ) → from ≤ start
-    → start - from ≡ places - length digits → take start new ≡ replicate start 32
-    → drop start new ≡ digits ++ rest → drop from new ≡ right_in places digits ++ rest
-digits_right new rest digits places from start low count blank written =
-    let spaces : List ℕ = replicate (places - length digits) 32 in
+-- So digits with blank bytes before them are right in their width.
+pub digits_right : (new rest digits : List ℕ) (width from start : ℕ) → from ≤ start
+    → start - from ≡ width - length digits → take start new ≡ replicate start 32
+    → drop start new ≡ digits ++ rest → drop from new ≡ right_in width digits ++ rest
+digits_right new rest digits width from start low count blank written =
+    let spaces : List ℕ = replicate (width - length digits) 32 in
     blank_from new from start low blank
     ∙ ap (λ (many : ℕ). replicate many 32 ++ drop start new) count
     ∙ ap (λ (later : List ℕ). spaces ++ later) written
@@ -57,14 +57,14 @@ pub spaces_are_ascii : (n : ℕ) → IsAscii (replicate n 32)
 spaces_are_ascii zero = IsAscii-nil
 spaces_are_ascii (suc n) = IsAscii-cons 32 (replicate n 32) (omega arith) (spaces_are_ascii n)
 
-pub right_is_ascii : (places n : ℕ) → n < 2 ^ 64 → IsAscii (right_in places (decimal n))
-right_is_ascii places n small =
-    IsAscii-append (replicate (places - length (decimal n)) 32) (decimal n)
-    (spaces_are_ascii (places - length (decimal n))) (IsAscii-decimal n small)
+pub right_is_ascii : (width n : ℕ) → n < 2 ^ 64 → IsAscii (right_in width (decimal n))
+right_is_ascii width n small =
+    IsAscii-append (replicate (width - length (decimal n)) 32) (decimal n)
+    (spaces_are_ascii (width - length (decimal n))) (IsAscii-decimal n small)
 
--- A number of five digits at most in five places, with two spaces before them, stands in seven.
-pub two_more_places : (n : ℕ) → n < 2 ^ 16 → right_in 7 (decimal n) ≡ codes "  " ++ right_in 5 (decimal n)
-two_more_places n small =
+-- A number of five digits at most in a width of five, with two spaces before them, stands in seven.
+pub two_wider : (n : ℕ) → n < 2 ^ 16 → right_in 7 (decimal n) ≡ codes "  " ++ right_in 5 (decimal n)
+two_wider n small =
     let few : length (decimal n) ≤ 5 =
     length-decimal-le 5 n (omega arith) (omega (arith, small)) (omega (arith, small)) in
     let more : 7 - length (decimal n) ≡ suc (suc (5 - length (decimal n))) = omega (arith, few) in
@@ -86,27 +86,27 @@ cells_end (column ∷ columns) (text ∷ texts) end =
     ∙ ap (λ (later : List ℕ). right_in column.1 text ++ later) (cells_end columns texts end)
 
 -- A number that is put before what is written of a line: what the line is then.
-pub record IsPut (old new : List ℕ) (places number end from : ℕ) : Type 0 where
+pub record IsPut (old new : List ℕ) (width number end from : ℕ) : Type 0 where
   pub is_line : IsLine from new
-  pub written : drop from new ≡ right_in places (decimal number) ++ drop end old
+  pub written : drop from new ≡ right_in width (decimal number) ++ drop end old
   pub near : end ≤ from + 20
 
-pub number_put : (old new : List ℕ) (places number end start from : ℕ) → IsLine end old → number < 2 ^ 64
-    → places ≤ 20 → 20 ≤ end → start + length (decimal number) ≡ end → take start new ≡ take start old
-    → drop start new ≡ decimal number ++ drop end old → from ≡ min start (end - places)
-    → IsPut old new places number end from
-number_put old new places number end start from line small few room ends before digits least =
+pub number_put : (old new : List ℕ) (width number end start from : ℕ) → IsLine end old → number < 2 ^ 64
+    → width ≤ 20 → 20 ≤ end → start + length (decimal number) ≡ end → take start new ≡ take start old
+    → drop start new ≡ decimal number ++ drop end old → from ≡ min start (end - width)
+    → IsPut old new width number end from
+number_put old new width number end start from line small few room ends before digits least =
     let blank : take start new ≡ replicate start 32 =
     before ∙ blank_below old start end (omega (arith, ends)) line.blank in
-    let written : drop from new ≡ right_in places (decimal number) ++ drop end old =
-    digits_right new (drop end old) (decimal number) places from start (omega (arith, least))
+    let written : drop from new ≡ right_in width (decimal number) ++ drop end old =
+    digits_right new (drop end old) (decimal number) width from start (omega (arith, least))
     (omega (arith, least, ends, few, room)) blank digits in
     record {
       is_line = record {
         within = omega (arith, least, ends, line.within);
         blank = blank_below new from start (omega (arith, least)) blank;
-        ascii = rw written (IsAscii-append (right_in places (decimal number)) (drop end old)
-            (right_is_ascii places number small) line.ascii);
+        ascii = rw written (IsAscii-append (right_in width (decimal number)) (drop end old)
+            (right_is_ascii width number small) line.ascii);
       };
       written = written;
       near = omega (arith, least, ends, few, room, digits_fit number small);
@@ -118,7 +118,7 @@ pub room_before : (line bytes : List ℕ) (from words : ℕ) → line ≡ drop f
 room_before line bytes from words is long within room =
     omega (arith, ap length is, length-drop from bytes, long, within, room)
 
--- Bytes in which a word stands up to a place: what they are from the word on.
+-- Bytes in which a word stands up to an index: what they are from the word on.
 pub word_written : (old word piece : List ℕ) (end : ℕ) → end ≤ length old → length word ≤ end → piece ≡ word
     → drop (end - length word) (put_mid (end - length word) (end - (end - length word)) old piece)
     ≡ word ++ drop end old
@@ -135,7 +135,7 @@ word_written old word piece end long fits is =
     low : start ≤ length old
     low = omega (arith, long)
 
--- The line of a level is four numbers, of which the first has two places more.
+-- The line of a level is four numbers, of which the first is two wider.
 pub level_added : {X E : Type 0} (result : Result X E) (old new : List ℕ) (level held free : ℕ) → level < 2 ^ 16
     → OnOk result (new ≡ old ++ four_line (7, level) (8, size_of level) (8, held) (8, free))
     → OnOk result (new ≡ old ++ table_line level_table (level_texts level held free))
@@ -144,7 +144,7 @@ level_added (Ok done) old new level held free small added =
     let later : List ℕ =
     right_in 8 (decimal (size_of level)) ++ (right_in 8 (decimal held) ++ (right_in 8 (decimal free) ++ codes "\n")) in
     added
-    ∙ ap (λ (front : List ℕ). old ++ (front ++ later)) (two_more_places level small)
+    ∙ ap (λ (front : List ℕ). old ++ (front ++ later)) (two_wider level small)
     ∙ ap (λ (columns : List ℕ). old ++ (codes "  " ++ columns))
     (sym (cells_end level_table (level_texts level held free) (codes "\n")))
 

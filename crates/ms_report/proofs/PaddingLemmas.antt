@@ -20,21 +20,21 @@ use Rattle.ms_report.specs.Kinds.{sum_columns, kind_table, kind_line, sum_texts}
 use Rattle.ms_report.specs.Holdings.{holding_table, holding_line, arena_texts, space_text}
 use Rattle.ms_report.specs.LayoutLaws.{IsWithin, IsKindWithin, IsArenaWithin}
 
-left_fits : (places : ℕ) (text : List ℕ) → length text ≤ places → length (left_in places text) ≡ places
-left_fits places text fits =
+left_fits : (width : ℕ) (text : List ℕ) → length text ≤ width → length (left_in width text) ≡ width
+left_fits width text fits =
     omega (
       arith,
-      length-append text (replicate (places - length text) 32),
-      length-replicate {A = ℕ} (places - length text) 32,
+      length-append text (replicate (width - length text) 32),
+      length-replicate {A = ℕ} (width - length text) 32,
       fits,
     )
 
-right_fits : (places : ℕ) (text : List ℕ) → length text ≤ places → length (right_in places text) ≡ places
-right_fits places text fits =
+right_fits : (width : ℕ) (text : List ℕ) → length text ≤ width → length (right_in width text) ≡ width
+right_fits width text fits =
     omega (
       arith,
-      length-append (replicate (places - length text) 32) text,
-      length-replicate {A = ℕ} (places - length text) 32,
+      length-append (replicate (width - length text) 32) text,
+      length-replicate {A = ℕ} (width - length text) 32,
       fits,
     )
 
@@ -57,13 +57,13 @@ FitIn [] [] = Unit {0}
 FitIn (column ∷ columns) (text ∷ texts) = (length text ≤ column.1) × FitIn columns texts
 FitIn _ _ = ⊥
 
--- The places of all columns.
-abbrev places_of : Table → ℕ
-places_of [] = 0
-places_of (column ∷ columns) = column.1 + places_of columns
+-- The width of all columns.
+abbrev width_of : Table → ℕ
+width_of [] = 0
+width_of (column ∷ columns) = column.1 + width_of columns
 
 cells_length : (table : Table) (texts : List (List ℕ)) → FitIn table texts
-    → length (cells table texts) ≡ places_of table
+    → length (cells table texts) ≡ width_of table
 cells_length [] [] fit = refl
 cells_length [] (text ∷ texts) fit = absurd fit
 cells_length (column ∷ columns) [] fit = absurd fit
@@ -76,7 +76,7 @@ cells_length (column ∷ columns) (text ∷ texts) fit =
     )
 
 line_length : (table : Table) (texts : List (List ℕ)) → FitIn table texts
-    → length (table_line table texts) ≡ places_of table + 3
+    → length (table_line table texts) ≡ width_of table + 3
 line_length table texts fit = omega (arith, length-append (cells table texts) (10 ∷ []), cells_length table texts fit)
 
 pub level_line_length : (level held free : ℕ) → level ≤ 12 → held ≤ 655360 → free ≤ 655360
@@ -174,20 +174,20 @@ holding_line_length loader space arena low its =
     )
 
 -- A text that is shorter than its column has a space before it.
-before_short : (places : ℕ) (text : List ℕ) → length text < places
-    → (rest : List ℕ) × (right_in places text ≡ 32 ∷ rest)
-before_short places text short = spaces (places - length text) (omega (arith, short))
+before_short : (width : ℕ) (text : List ℕ) → length text < width
+    → (rest : List ℕ) × (right_in width text ≡ 32 ∷ rest)
+before_short width text short = spaces (width - length text) (omega (arith, short))
   where
     spaces : (count : ℕ) → 0 < count → (rest : List ℕ) × (replicate count 32 ++ text ≡ 32 ∷ rest)
     spaces zero some = absurd (omega (arith, some))
     spaces (suc count) some = (replicate count 32 ++ text, refl)
 
-pub digits_stand_apart : (places number : ℕ) → 0 < places → places ≤ 18 → number < 10 ^ places
-    → (rest : List ℕ) × (right_in (places + 1) (decimal number) ≡ 32 ∷ rest)
-digits_stand_apart places number some few below =
+pub digits_stand_apart : (width number : ℕ) → 0 < width → width ≤ 18 → number < 10 ^ width
+    → (rest : List ℕ) × (right_in (width + 1) (decimal number) ≡ 32 ∷ rest)
+digits_stand_apart width number some few below =
     let small : number < 2 ^ 64 = let most = pow-le-pow_right {n = 10} (omega arith) few in
     omega (arith, below, most) in
-    before_short (places + 1) (decimal number) (omega (arith, length-decimal-le places number some below small))
+    before_short (width + 1) (decimal number) (omega (arith, length-decimal-le width number some below small))
 
 -- What is left of a column of spaces after a label.
 pub spaces_after : (count at : ℕ) → at ≡ min count 12

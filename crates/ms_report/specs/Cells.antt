@@ -19,19 +19,19 @@ row_in row = (row.0.now, row.1)
 abbrev pub rows_in : List (Bor (List ℕ) × Amount) → List (List ℕ × Amount)
 rows_in rows = map row_in rows
 
--- A number, right in its places.
-abbrev pub placed : ℕ × ℕ → List ℕ
-placed column = right_in column.0 (decimal column.1)
+-- A number, right in its width.
+abbrev pub aligned : ℕ × ℕ → List ℕ
+aligned column = right_in column.0 (decimal column.1)
 
--- Numbers, each right in its places.
-abbrev pub all_placed : List (ℕ × ℕ) → List ℕ
-all_placed [] = []
-all_placed (column ∷ columns) = placed column ++ all_placed columns
+-- Numbers, each right in its width.
+abbrev pub all_aligned : List (ℕ × ℕ) → List ℕ
+all_aligned [] = []
+all_aligned (column ∷ columns) = aligned column ++ all_aligned columns
 
 -- Four numbers, one beside the other, and the line's end.
 abbrev pub four_line : ℕ × ℕ → ℕ × ℕ → ℕ × ℕ → ℕ × ℕ → List ℕ
 four_line first second third fourth =
-    placed first ++ (placed second ++ (placed third ++ (placed fourth ++ codes "\n")))
+    aligned first ++ (aligned second ++ (aligned third ++ (aligned fourth ++ codes "\n")))
 
 -- A line that is written from its end: it is blank up to a byte, and from there on it is ASCII.
 pub record IsLine (from : ℕ) (bytes : List ℕ) : Type 0 where

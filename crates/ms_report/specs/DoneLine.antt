@@ -2,7 +2,7 @@
 use Rattle.std.specs.Prelude.{◌≡◌, ℕ, ◌≤◌, List, ◌++◌, codes, drop, length, replicate}
 use Rattle.std.specs.Fmt.{decimal}
 
--- Bytes that are the line of a number from a place on, with spaces after it.
+-- Bytes that are the line of a number from an index on, with spaces after it.
 pub record IsDoneLine (number from : ℕ) (bytes : List ℕ) : Type 0 where
   pub long : length bytes ≡ 36
   pub low : 8 ≤ from

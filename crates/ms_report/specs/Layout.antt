@@ -7,12 +7,12 @@ use Rattle.ms_base.specs.declared.kind.Kind.{Kind}
 use Rattle.ms_base.specs.declared.kind.Kind.TheVariants.{Standard, Boot, Reflection, Hidden}
 use Rattle.ms_base.specs.Totals.{SpaceSums, LoaderRow}
 
--- A text with spaces to so many places, after it or before it; a longer text stays as it is.
+-- A text with spaces to a width, after it or before it; a longer text stays as it is.
 abbrev pub left_in : ℕ → List ℕ → List ℕ
-left_in places text = text ++ replicate (places - length text) 32
+left_in width text = text ++ replicate (width - length text) 32
 
 abbrev pub right_in : ℕ → List ℕ → List ℕ
-right_in places text = replicate (places - length text) 32 ++ text
+right_in width text = replicate (width - length text) 32 ++ text
 
 -- A line with a label and a number.
 abbrev pub number_line : List ℕ → ℕ → List ℕ
@@ -23,7 +23,7 @@ abbrev pub number_lines : List (List ℕ × ℕ) → List ℕ
 number_lines [] = []
 number_lines (row ∷ rows) = number_line row.0 row.1 ++ number_lines rows
 
--- A table is the headings of its columns, from left to right, and the places of each.
+-- A table is the headings of its columns, from left to right, and the width of each.
 abbrev pub Table : Type 0
 Table = List (List ℕ × ℕ)
 

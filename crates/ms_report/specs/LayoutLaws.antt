@@ -89,8 +89,8 @@ HoldingsLineUp =
     × ((loader : LoaderSums) (space : Space) (arena : ArenaSums) → loader.name ≤ 65535 → IsArenaWithin arena
     → length (holding_line loader space arena) ≡ 102)
 
--- A number with fewer digits than its column has places has a space before it.
+-- A number with fewer digits than its column is wide has a space before it.
 abbrev pub ColumnsStandApart : Type 0
 ColumnsStandApart =
-    (places number : ℕ) → 0 < places → places ≤ 18 → number < 10 ^ places
-    → (rest : List ℕ) × (right_in (places + 1) (decimal number) ≡ 32 ∷ rest)
+    (width number : ℕ) → 0 < width → width ≤ 18 → number < 10 ^ width
+    → (rest : List ℕ) × (right_in (width + 1) (decimal number) ≡ 32 ∷ rest)

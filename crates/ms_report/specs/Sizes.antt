@@ -3,9 +3,9 @@ use Rattle.std.specs.Prelude.{ℕ, ◌*◌, ◌/◌, ◌%◌, List, ◌++◌, co
 use Rattle.std.specs.Fmt.{decimal}
 use Rattle.ms_report.specs.Layout.{right_in}
 
--- A number with one digit after its point: what is whole right in its places, and the tenths.
+-- A number with one digit after its point: what is whole right in its width, and the tenths.
 abbrev pub pointed : ℕ → ℕ → ℕ → List ℕ
-pointed places whole tenths = right_in places (decimal whole) ++ codes "." ++ right_in 1 (decimal tenths)
+pointed width whole tenths = right_in width (decimal whole) ++ codes "." ++ right_in 1 (decimal tenths)
 
 -- How many units of so many words there are, cut off after one digit.
 abbrev pub units_in : ℕ → ℕ → List ℕ

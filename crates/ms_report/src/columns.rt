@@ -11,16 +11,16 @@ ghost use Rattle.ms_report.specs.Cells.{four_line};
 use crate::line::Line;
 use std::alloc::AllocError;
 
-/// A number and the places of its column.
-pub type Placed = (usize, u64);
+/// A number and the width of its column.
+pub type Aligned = (usize, u64);
 
-/// Appends four numbers, each right in its places, and the line's end.
+/// Appends four numbers, each right in its width, and the line's end.
 pub(crate) fn push_four(
     text: &mut String,
-    first: Placed,
-    second: Placed,
-    third: Placed,
-    fourth: Placed,
+    first: Aligned,
+    second: Aligned,
+    third: Aligned,
+    fourth: Aligned,
 ) -> Result<(), AllocError>
     requires first { first.0 ≤ 20 }
     requires second { second.0 ≤ 20 }

@@ -21,13 +21,13 @@ const ROOM: usize = 36;
 /// The bytes of a piece: no line of a number of ten digits is longer.
 const PIECE: usize = 16;
 
-/// The place of the ones.
+/// The index of the ones.
 const ONES: usize = 19;
 
-/// The place past the number.
+/// The index past the number.
 const NUMBER_END: usize = 20;
 
-/// The place past the line.
+/// The index past the line.
 const END: usize = 24;
 
 /// The line of the number that was told last. Nothing outside rests on which one that is.
@@ -75,7 +75,7 @@ impl DoneLine {
         self.push_up_to(NUMBER_END, text, number)
     }
 
-    /// Appends the line of a number to a text, up to a place past the number.
+    /// Appends the line of a number to a text, up to an index past the number.
     #[inline(always)]
     fn push_up_to(&mut self, end: usize, text: &mut String, number: u32) -> Result<(), AllocError>
         requires past { 20 ≤ end }
@@ -104,7 +104,7 @@ fn count_on(bytes: &mut [u8], from: &mut usize, last: &mut u32, number: u32)
     *last = number;
 }
 
-/// Appends what stands in bytes from one place on up to another.
+/// Appends what stands in bytes from one index on up to another.
 #[inline(always)]
 fn push_piece(text: &mut String, bytes: &[u8], from: usize, end: usize) -> Result<(), AllocError>
     requires long { length bytes.now ≡ 36 }

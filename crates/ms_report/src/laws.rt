@@ -46,7 +46,7 @@ pub fn holdings_line_up()
     ensures { HoldingsLineUp }
 {}
 
-/// A number with fewer digits than its column has places never runs together with what stands
+/// A number with fewer digits than its column is wide never runs together with what stands
 /// before.
 pub fn columns_stand_apart()
     ensures { ColumnsStandApart }

@@ -1,19 +1,19 @@
 //! Lines of a report: texts in columns that are filled with spaces.
 //!
-//!     |  committed           8192      a line of a label and a number: 12 places left, 12 right
+//!     |  committed           8192      a line of a label and a number: 12 bytes left, 12 right
 //!     |        4096          7            numbers, each right in its column
 //!
 //! Kept true: a line is the bytes that `specs/Layout.antt` gives for its texts and numbers. All
 //! calls append to a text, and take memory for it alone.
 ghost use Rattle.std.specs.Prelude.{◌≡◌, ◌++◌, OnOk, string_bytes, codes, decimal, replicate};
 ghost use Rattle.ms_report.specs.Layout.{number_line, left_in, number_lines, right_in};
-ghost use Rattle.ms_report.specs.Cells.{all_placed, pairs_in};
+ghost use Rattle.ms_report.specs.Cells.{all_aligned, pairs_in};
 
 use crate::line::Line;
 use itoa::Buffer;
 use std::alloc::AllocError;
 
-/// The places of a label, and of the number beside it.
+/// The width of a label, and of the number beside it.
 pub const COLUMN: usize = 12;
 
 /// The spaces of an empty column.
@@ -60,27 +60,27 @@ pub(crate) fn push_number_lines(
     Ok(())
 }
 
-/// Appends a number of 128 bits with spaces before it to so many places.
-pub(crate) fn push_wide(text: &mut String, places: usize, number: u128) -> Result<(), AllocError>
+/// Appends a number of 128 bits with spaces before it to that width.
+pub(crate) fn push_wide(text: &mut String, width: usize, number: u128) -> Result<(), AllocError>
     ensures { OnOk result (string_bytes text.new
-        ≡ string_bytes text.old ++ right_in places (decimal number)) }
+        ≡ string_bytes text.old ++ right_in width (decimal number)) }
 {
     let mut buffer = Buffer::new();
-    push_word(text, places, buffer.format(number))
+    push_word(text, width, buffer.format(number))
 }
 
-/// Appends numbers of 128 bits, each right in its places.
+/// Appends numbers of 128 bits, each right in its width.
 pub(crate) fn push_wides(text: &mut String, columns: &[(usize, u128)]) -> Result<(), AllocError>
     ensures { OnOk result (string_bytes text.new
-        ≡ string_bytes text.old ++ all_placed columns.now) }
+        ≡ string_bytes text.old ++ all_aligned columns.now) }
 {
-    for (places, number) in columns {
-        push_wide(text, *places, *number)?;
+    for (width, number) in columns {
+        push_wide(text, *width, *number)?;
     }
     Ok(())
 }
 
-/// Appends two spaces, and a label with spaces after it to the places of a column.
+/// Appends two spaces, and a label with spaces after it to the width of a column.
 pub(crate) fn push_label(text: &mut String, label: &str) -> Result<(), AllocError>
     ensures { OnOk result (string_bytes text.new
         ≡ string_bytes text.old ++ (codes "  " ++ left_in 12 label.now)) }
@@ -90,11 +90,11 @@ pub(crate) fn push_label(text: &mut String, label: &str) -> Result<(), AllocErro
     text.push_str(&SPACES[label.len().min(COLUMN)..])
 }
 
-/// Appends a text with spaces before it to so many places.
-fn push_word(text: &mut String, places: usize, word: &str) -> Result<(), AllocError>
+/// Appends a text with spaces before it to that width.
+fn push_word(text: &mut String, width: usize, word: &str) -> Result<(), AllocError>
     ensures { OnOk result (string_bytes text.new
-        ≡ string_bytes text.old ++ right_in places word.now) }
+        ≡ string_bytes text.old ++ right_in width word.now) }
 {
-    push_spaces(text, places.saturating_sub(word.len()))?;
+    push_spaces(text, width.saturating_sub(word.len()))?;
     text.push_str(word)
 }

@@ -17,19 +17,19 @@ use std::str::from_utf8_unchecked;
 /// The bytes of a line: seven numbers of twenty digits, the line's end, and fifty for words.
 const ROOM: usize = 192;
 
-/// The place of the line's end.
+/// The index of the line's end.
 const LAST: usize = ROOM - 1;
 
-/// The places of the two spaces that begin a line, and of a name or a level after them.
+/// The width of the two spaces that begin a line, and of a name or a level after them.
 pub const NAME: usize = 7;
 
-/// The places of a count of chunks, and of the words of a level.
+/// The width of a count of chunks, and of the words of a level.
 pub const COUNT: usize = 8;
 
-/// The places of an amount of words.
+/// The width of an amount of words.
 pub const WORDS: usize = 10;
 
-/// The places of the words of free blocks.
+/// The width of the words of free blocks.
 pub const FREE_BLOCKS: usize = 13;
 
 /// A line that is written from its end. Contracts see what is written so far.
@@ -72,17 +72,17 @@ impl Line {
         }
     }
 
-    /// Puts a number before what is written, right in its places.
+    /// Puts a number before what is written, right in its width.
     #[inline(always)]
-    pub(crate) fn put_right(&mut self, places: usize, number: u64)
-        requires places { places ≤ 20 }
+    pub(crate) fn put_right(&mut self, width: usize, number: u64)
+        requires width { width ≤ 20 }
         requires room { length self.old + 20 ≤ 192 }
-        ensures written { self.new ≡ right_in places (decimal number) ++ self.old }
+        ensures written { self.new ≡ right_in width (decimal number) ++ self.old }
         ensures near { length self.new ≤ length self.old + 20 }
     {
         let end = self.from;
         let start = write_digits(number, &mut self.bytes, end);
-        self.from = start.min(end - places);
+        self.from = start.min(end - width);
     }
 
     /// Puts a word before what is written.

@@ -1,7 +1,7 @@
 //! The part Map of a full report: where each root is lent and committed.
 //!
 //!     |  slot  root  places of 8192 words
-//!     |     0     0  OOuu..--                  a letter for each of 64 places
+//!     |     0     0  OOuu..--                  a letter for each of 64 cells
 //!
 //! Kept true: the text is the bytes that `specs/Map.antt` gives for the maps. Only the text takes
 //! memory.
@@ -12,7 +12,7 @@ ghost use Rattle.ms_report.specs.Map.{letter, letters, map_line, map_lines};
 ghost use Rattle.ms_report.specs.Map.{map_part};
 
 use crate::line::Line;
-use ms_pool::{Place, RootMap};
+use ms_pool::{Cell, RootMap};
 use std::alloc::{AllocError, Global};
 
 /// The title and the headings.
@@ -23,7 +23,7 @@ const KEY: &str =
     "  - free, not committed\n  . free, committed\n  u lent, not committed\n  o lent in part, committed\n  O lent as a whole, committed\n";
 
 /// Writes the maps of roots: a line for each root, with its slot, its number over both spaces and a
-/// letter for each place of 8192 words, and a key to the letters. A root begins at the word of its
+/// letter for each cell of 8192 words, and a key to the letters. A root begins at the word of its
 /// number times 524288. Takes memory for the text; an error means that a growth was refused. After
 /// HotSpot's VM.metaspace vsmap, with this project's letters.
 pub fn map_text(alloc: Global, maps: &[RootMap]) -> Result<String, AllocError>
@@ -61,7 +61,7 @@ fn push_line(text: &mut String, root: &RootMap) -> Result<(), AllocError>
         ≡ string_bytes text.old ++ map_line (map_in root.now)) }
 {
     push_root(text, root.root)?;
-    push_letters(text, &root.places)?;
+    push_letters(text, &root.cells)?;
     text.push_str("\n")
 }
 
@@ -78,28 +78,28 @@ fn push_root(text: &mut String, root: u32) -> Result<(), AllocError>
     line.push_to(text)
 }
 
-/// Appends the letters of places, in their order: `-` free, `.` free and committed, `u` lent, `o` lent
+/// Appends the letters of cells, in their order: `-` free, `.` free and committed, `u` lent, `o` lent
 /// in part and committed, `O` lent as a whole and committed. Takes memory for the text; an error means
 /// that a growth was refused. This project's choice.
-pub fn push_letters(text: &mut String, places: &[Place]) -> Result<(), AllocError>
+pub fn push_letters(text: &mut String, cells: &[Cell]) -> Result<(), AllocError>
     ensures { OnOk result (string_bytes text.new
-        ≡ string_bytes text.old ++ letters places.now) }
+        ≡ string_bytes text.old ++ letters cells.now) }
 {
-    for place in places {
-        text.push_str(letter(*place))?;
+    for cell in cells {
+        text.push_str(letter(*cell))?;
     }
     Ok(())
 }
 
-/// Returns the letter of a place.
-fn letter(place: Place) -> &'static str
-    ensures { result.now ≡ letter place }
+/// Returns the letter of a cell.
+fn letter(cell: Cell) -> &'static str
+    ensures { result.now ≡ letter cell }
 {
-    match place {
-        Place::Free => "-",
-        Place::FreeCommitted => ".",
-        Place::LentUncommitted => "u",
-        Place::LentPartly => "o",
-        Place::LentWholly => "O",
+    match cell {
+        Cell::Free => "-",
+        Cell::FreeCommitted => ".",
+        Cell::LentUncommitted => "u",
+        Cell::LentPartly => "o",
+        Cell::LentWholly => "O",
     }
 }

@@ -111,12 +111,12 @@ fn push_levels(text: &mut String, space: &SpaceTotals) -> Result<(), AllocError>
 {
     text.push_str(LEVEL_HEADINGS)?;
     for number in 0..13 {
-        let place = usize::from(number);
+        let index = usize::from(number);
         push_level(
             text,
             Level::new(number),
-            space.held[place],
-            space.free[place],
+            space.held[index],
+            space.free[index],
         )?;
     }
     Ok(())

@@ -57,14 +57,14 @@ fn push_units(text: &mut String, unit: u128, words: u128) -> Result<(), AllocErr
 /// Appends a number with one digit after its point.
 pub(crate) fn push_pointed(
     text: &mut String,
-    places: usize,
+    width: usize,
     whole: u128,
     tenths: u128,
 ) -> Result<(), AllocError>
     ensures { OnOk result (string_bytes text.new
-        ≡ string_bytes text.old ++ pointed places whole tenths) }
+        ≡ string_bytes text.old ++ pointed width whole tenths) }
 {
-    push_wide(text, places, whole)?;
+    push_wide(text, width, whole)?;
     text.push_str(".")?;
     push_wide(text, 1, tenths)
 }

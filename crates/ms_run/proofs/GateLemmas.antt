@@ -20,12 +20,12 @@ use Rattle.ms_trace.specs.declared.trace.Line.{Line}
 use Rattle.ms_trace.specs.Steps.{step_of}
 use Rattle.ms_run.specs.Gating.{GateCall, Before, After, IsGated, IsGatedBy, AreGated, AreTasksGated, AreGatedFrom}
 use Rattle.ms_run.specs.Gating.{AreGatedByTurn, phase_after}
-use Rattle.ms_run.specs.Shares.{AreDealt, AreSteps, AreWorkedByTurn, Place, task_of, tasks_at, tasks_of}
-use Rattle.ms_run.specs.Turn.{HasOwnShare, HaveOwnShares, IsSameTurn, TurnState, place_in, shares_in, worker_by, worker_in}
+use Rattle.ms_run.specs.Shares.{AreDealt, AreSteps, AreWorkedByTurn, Position, task_of, tasks_at, tasks_of}
+use Rattle.ms_run.specs.Turn.{HasOwnShare, HaveOwnShares, IsSameTurn, TurnState, position_in, shares_in, worker_by, worker_in}
 use Rattle.ms_run.specs.Workers.{IsByTurn}
 use Rattle.ms_run.specs.declared.share.Share.{Share}
 use Rattle.ms_run.specs.declared.share.Task.{Task}
-use Rattle.ms_run.proofs.WorkedLemmas.{at_place, share_at}
+use Rattle.ms_run.proofs.WorkedLemmas.{at_position, share_at}
 
 -- A line that asks no step is no call's; one that does is between the gate's two calls.
 pub between_gated : (told : GateCall → Type 0) (worker : Option ℕ → ℕ) (line : Line) (step : Option Step)
@@ -77,12 +77,12 @@ all_tasks_gated told worker tasks at so_far ends =
     subst (AreTasksGated told worker) (ap (λ (n : ℕ). take n tasks) ends ∙ take-length tasks) so_far
 
 -- The lines of a phase are gated where the tasks are that they make for each share.
-module _ (told : GateCall → Type 0) (worker : Option ℕ → ℕ) (place : Place) where
+module _ (told : GateCall → Type 0) (worker : Option ℕ → ℕ) (position : Position) where
   abbrev AreOwn : List Task → Type 0
   AreOwn tasks = AllByRecursion (λ (task : Task). IsGated told (worker (loader_of task.step)) task.line) tasks
 
   abbrev goes_to : ℕ → Task → Bool
-  goes_to at task = place (loader_of task.step) == at
+  goes_to at task = position (loader_of task.step) == at
 
   here : (at : ℕ) (task : Task) (tasks : List Task) → goes_to at task ≡ true → AreOwn (filter (goes_to at) (task ∷ tasks))
       → IsGated told (worker (loader_of task.step)) task.line
@@ -95,26 +95,26 @@ module _ (told : GateCall → Type 0) (worker : Option ℕ → ℕ) (place : Pla
   rest at task tasks false are = are
 
   others : (line : Line) (lines : List Line) (at : ℕ) (step : Option Step)
-      → AreOwn (filter (goes_to at) (task_of line step (tasks_of lines))) → AreOwn (tasks_at place at lines)
+      → AreOwn (filter (goes_to at) (task_of line step (tasks_of lines))) → AreOwn (tasks_at position at lines)
   others line lines at None are = are
   others line lines at (Some step) are =
       let task : Task = record { line = line.number; step = step } in
       rest at task (tasks_of lines) (goes_to at task) are
 
   line_gated : (line : Line) (lines : List Line) (step : Option Step)
-      → ((name : Option ℕ) → AreOwn (filter (goes_to (place name)) (task_of line step (tasks_of lines))))
+      → ((name : Option ℕ) → AreOwn (filter (goes_to (position name)) (task_of line step (tasks_of lines))))
       → IsGatedBy told worker line step
   line_gated line lines None are = tt
   line_gated line lines (Some step) are =
-      here (place (loader_of step)) (record { line = line.number; step = step }) (tasks_of lines)
-      (eq-eqb (place (loader_of step)) (place (loader_of step)) refl) (are (loader_of step))
+      here (position (loader_of step)) (record { line = line.number; step = step }) (tasks_of lines)
+      (eq-eqb (position (loader_of step)) (position (loader_of step)) refl) (are (loader_of step))
 
-  dealt_gated : (lines : List Line) → ((name : Option ℕ) → AreOwn (tasks_at place (place name) lines))
+  dealt_gated : (lines : List Line) → ((name : Option ℕ) → AreOwn (tasks_at position (position name) lines))
       → AllByRecursion (λ (line : Line). IsGatedBy told worker line (step_of line.command)) lines
   dealt_gated [] are = tt
   dealt_gated (line ∷ lines) are = (
     line_gated line lines (step_of line.command) are,
-    dealt_gated lines (λ name. others line lines (place name) (step_of line.command) (are name)),
+    dealt_gated lines (λ name. others line lines (position name) (step_of line.command) (are name)),
   )
 
 -- So it is where each share is worked by the worker whose turn it is.
@@ -128,21 +128,21 @@ own_tasks_gated told worker share (task ∷ tasks) own gated = (
   own_tasks_gated told worker share tasks own.1 gated.1,
 )
 
-pub shares_gated : (told : GateCall → Type 0) (worker : Option ℕ → ℕ) (place : Place) (shared : LockState)
+pub shares_gated : (told : GateCall → Type 0) (worker : Option ℕ → ℕ) (position : Position) (shared : LockState)
     (shares : List Share) (lines : List Line) (loaders : List (ℕ × LoaderView))
-    → AreDealt place shared shares lines loaders → AreWorkedByTurn worker shares
+    → AreDealt position shared shares lines loaders → AreWorkedByTurn worker shares
     → All (λ (share : Share). AreTasksGated told share.worker share.tasks.items) shares → AreGated told worker lines
-shares_gated told worker place shared shares lines loaders dealt turns gated =
+shares_gated told worker position shared shares lines loaders dealt turns gated =
     All-from_recursion (λ (line : Line). IsGatedBy told worker line (step_of line.command)) lines
-    (dealt_gated told worker place lines (λ name.
-    let there = share_at shares (place name) (dealt.within name) in
+    (dealt_gated told worker position lines (λ name.
+    let there = share_at shares (position name) (dealt.within name) in
     subst (AllByRecursion (λ (task : Task). IsGated told (worker (loader_of task.step)) task.line))
-    (dealt.tasks (place name) there.0 there.1)
+    (dealt.tasks (position name) there.0 there.1)
     (own_tasks_gated told worker there.0 there.0.tasks.items
     (recursion_from_All (λ (task : Task). there.0.worker ≡ worker (loader_of task.step)) there.0.tasks.items
-    (turns (place name) there.0 there.1))
+    (turns (position name) there.0 there.1))
     (recursion_from_All (λ (task : Task). IsGated told there.0.worker task.line) there.0.tasks.items
-    (at_place (λ (share : Share). AreTasksGated told share.worker share.tasks.items) shares (place name) there.0 gated
+    (at_position (λ (share : Share). AreTasksGated told share.worker share.tasks.items) shares (position name) there.0 gated
     there.1)))))
 
 -- Where there is one share, its worker is that of each line.
@@ -150,9 +150,9 @@ only_share : (turn : TurnState) (step : Step) → shares_in turn ≡ 1 → HasOw
     → slice_index_or turn.active 0 0 ≡ worker_in turn (loader_of step)
 only_share turn step one own =
     let last : shares_in turn - 1 ≡ 0 = omega (arith, one) in
-    let first : place_in turn (loader_of step) ≡ 0 =
-    ap (λ (n : ℕ). min (slice_index_or turn.places (worker_in turn (loader_of step)) 0) n) last
-    ∙ min-zero (slice_index_or turn.places (worker_in turn (loader_of step)) 0) in
+    let first : position_in turn (loader_of step) ≡ 0 =
+    ap (λ (n : ℕ). min (slice_index_or turn.positions (worker_in turn (loader_of step)) 0) n) last
+    ∙ min-zero (slice_index_or turn.positions (worker_in turn (loader_of step)) 0) in
     ap (λ (n : ℕ). slice_index_or turn.active n 0) (sym first) ∙ own
 
 only_gated : (told : GateCall → Type 0) (turn : TurnState) (line : Line) (step : Option Step) → shares_in turn ≡ 1

@@ -29,7 +29,7 @@ use Rattle.ms_shared.proofs.WeaveLemmas.{weaves}
 use Rattle.ms_base.specs.Run.Own.{Said}
 use Rattle.ms_run.specs.Acts.{IsGrowing, IsOpening, IsClosing, AsksOf, Makes, Act, IsAct, Works, said_of, events_by}
 use Rattle.ms_run.specs.Acts.{seen, IsSoundEvent, AreSound, IsDoneBy, IsOwnStep, IsStep}
-use Rattle.ms_run.specs.Shares.{Place}
+use Rattle.ms_run.specs.Shares.{Position}
 use Rattle.std.proofs.lemmas.List.{nil_from_length}
 
 -- An owner without a chunk has no loan.
@@ -79,7 +79,7 @@ growth_still account refusal event its =
     ap seen
     (grow_refused_raises event.0 account its.grew.chunk its.total its.enlarges refusal event.1 its.grew.after).is
 
--- A step's events are spread: one is its place, and of the own the machine sees nothing.
+-- A step's events are spread: one has its position, and of the own the machine sees nothing.
 abbrev SpreadOf : List (ℕ × LoaderView) → Step → Reply → List (ℕ × LoaderView) → List Event → Type 0
 SpreadOf old step reply new events = Spread seen (λ before after. IsStep before old (step, reply) after new) events
 
@@ -154,30 +154,30 @@ spread_works old (act ∷ acts) new works = (
   spread_works works.0 acts new works.2,
 )
 
--- What was said at one place came of acts, over the loaders of that place, and the events of that
+-- What was said at one position came of acts, over the loaders of that position, and the events of that
 -- number are those of the acts.
-pub record HasPart (place : Place) (said : List Said) (log : List Logged) (before after : List (ℕ × LoaderView))
+pub record HasPart (position : Position) (said : List Said) (log : List Logged) (before after : List (ℕ × LoaderView))
     (at : ℕ) : Type 0 where
   pub acts : List Act
   pub works : Works before acts after
-  pub said_are : said_of acts ≡ filter (λ (s : Said). place (loader_of s.0) == at) said
+  pub said_are : said_of acts ≡ filter (λ (s : Said). position (loader_of s.0) == at) said
   pub events : events_by acts ≡ events_of at log
 
 -- So there is one order.
-pub record AreWoven (place : Place) (said : List Said) (first last : Ledger)
+pub record AreWoven (position : Position) (said : List Said) (first last : Ledger)
     (before after : List (List (ℕ × LoaderView))) : Type 0 where
   pub order : List (ℕ × Said)
   pub runs : Runs IsStep [] (seen first, before) order (seen last, after)
   pub keeps : (at : ℕ) → at < length before
-      → of at order ≡ filter (λ (s : Said). place (loader_of s.0) == at) said
+      → of at order ≡ filter (λ (s : Said). position (loader_of s.0) == at) said
 
-pub ordered : (place : Place) (said : List Said) (first last : Ledger) (before after : List (List (ℕ × LoaderView)))
+pub ordered : (position : Position) (said : List Said) (first last : Ledger) (before after : List (List (ℕ × LoaderView)))
     (log : List Logged) → length after ≡ length before → Chain first (events_in log) last
     → AreBelow (length before) log
     → ((at : ℕ) → at < length before
-    → HasPart place said log (slice_index_or before at []) (slice_index_or after at []) at)
-    → AreWoven place said first last before after
-ordered place said first last before after log count chain below parts =
+    → HasPart position said log (slice_index_or before at []) (slice_index_or after at []) at)
+    → AreWoven position said first last before after
+ordered position said first last before after log count chain below parts =
     let woven = weaves seen IsStep [] first last before after log acts chain below
     (record {
       count = count;
@@ -207,6 +207,6 @@ ordered place said first last before after log count chain below parts =
     events_at at (no more) below = absurd (more below)
 
     said_at : (at : ℕ) (d : Dec (at < length before)) → at < length before
-        → said_of (acts_of at d) ≡ filter (λ (s : Said). place (loader_of s.0) == at) said
+        → said_of (acts_of at d) ≡ filter (λ (s : Said). position (loader_of s.0) == at) said
     said_at at (yes less) below = (parts at less).said_are
     said_at at (no more) below = absurd (more below)

@@ -29,28 +29,28 @@ use Rattle.ms_run.specs.declared.alone.Metered.{Metered}
 use Rattle.ms_run.proofs.OrderLemmas.{HasPart, AreWoven, ordered}
 use Rattle.ms_run.proofs.machine.WholeLemmas.{one_run}
 use Rattle.ms_shared.proofs.SeatGatherLemmas.{HasOwn}
-use Rattle.ms_run.specs.Shares.{AreAt, place_for, said_in, IsReady, AllWorked, Place, AreApart, AreDealt, AreMerged}
+use Rattle.ms_run.specs.Shares.{AreAt, position_for, said_in, IsReady, AllWorked, Position, AreApart, AreDealt, AreMerged}
 use Rattle.ms_run.specs.Shares.{AreSteps}
 use Rattle.std.specs.Prelude.{slice_index_or}
-use Rattle.ms_run.proofs.sharing.StandByLemmas.{same_merged, all_placed}
-use Rattle.ms_run.specs.Turn.{TurnState, place_in, place_of, worker_in, IsSameTurn}
+use Rattle.ms_run.proofs.sharing.StandByLemmas.{same_merged, all_at_positions}
+use Rattle.ms_run.specs.Turn.{TurnState, position_in, position_of, worker_in, IsSameTurn}
 use Rattle.ms_run.proofs.replays.StepReplayLemmas.{AsksStep, steps_replay}
 use Rattle.ms_run.specs.declared.share.Task.{Task}
 use Rattle.ms_run.specs.declared.share.Share.{Share}
-use Rattle.ms_run.proofs.WorkedLemmas.{IsDoneIfPurge, at_place, loaders_at, purged_all, same_count}
+use Rattle.ms_run.proofs.WorkedLemmas.{IsDoneIfPurge, at_position, loaders_at, purged_all, same_count}
 use Rattle.ms_run.proofs.WorkedLemmas.{seat_at, share_at, still_apart, team_of, worked_from}
 
 -- What a phase's parts say of it together.
-pub phase_of : (worker : Option ℕ → ℕ) (share : ℕ → ℕ) (place : Place) (shared : LockState) (shares others : List Share) (lines : List Line)
+pub phase_of : (worker : Option ℕ → ℕ) (share : ℕ → ℕ) (position : Position) (shared : LockState) (shares others : List Share) (lines : List Line)
     (added : List Answer) (said : List Said)
     (loaders : List (ℕ × LoaderView)) (old new : Machine)
-    → AreDealt place shared shares lines loaders → AllWorked shares others
-    → AreSaid lines added said → AreMerged place others said → IsGood old → IsGood new
+    → AreDealt position shared shares lines loaders → AllWorked shares others
+    → AreSaid lines added said → AreMerged position others said → IsGood old → IsGood new
     → old ≡ machine_of shared.first loaders → AreTogether shared.first loaders → IsMadeFrom shared.first others new
     → new.limits ≡ old.limits
-    → AllByRecursion (λ (s : Said). place (loader_of s.0) ≡ share (worker (loader_of s.0))) said
+    → AllByRecursion (λ (s : Said). position (loader_of s.0) ≡ share (worker (loader_of s.0))) said
     → IsPhase worker old lines added new
-phase_of worker share place shared shares others lines added said loaders old new dealt all said_are merged
+phase_of worker share position shared shares others lines added said loaders old new dealt all said_are merged
     was_good good machine together made limits placed = record {
       said = said;
       said_are = said_are;
@@ -61,11 +61,11 @@ phase_of worker share place shared shares others lines added said loaders old ne
       limits = limits;
     }
   where
-    there : (name : Option ℕ) → (done : Share) × (slice_get others (place name) ≡ Some done)
-    there name = share_at others (place name) (omega (arith, same_count shares others all, dealt.within name))
+    there : (name : Option ℕ) → (done : Share) × (slice_get others (position name) ≡ Some done)
+    there name = share_at others (position name) (omega (arith, same_count shares others all, dealt.within name))
 
-    apart : AreApart place others
-    apart = still_apart place shares others lines dealt.apart dealt.tasks all
+    apart : AreApart position others
+    apart = still_apart position shares others lines dealt.apart dealt.tasks all
 
     before : List (List (ℕ × LoaderView))
     before = map team_of shares
@@ -80,31 +80,31 @@ phase_of worker share place shared shares others lines added said loaders old ne
     done_at at less = share_at others at (omega (arith, many))
 
     begins_at : (at : ℕ) → (done : Share) × (slice_get others at ≡ Some done)
-        → AreAt place at loaders (slice_index_or before at [])
+        → AreAt position at loaders (slice_index_or before at [])
     begins_at at (done, found) =
         let from = worked_from shares others at done all found in
-        subst (AreAt place at loaders) (sym (loaders_at shares at from.share from.is)) (record {
+        subst (AreAt position at loaders) (sym (loaders_at shares at from.share from.is)) (record {
           here = λ name goes. dealt.here at from.share name from.is goes;
           apart = λ name differs. dealt.apart at from.share name from.is differs;
         })
 
     ends_at : (at : ℕ) → (done : Share) × (slice_get others at ≡ Some done)
-        → AreAt place at made.ends.loaders (slice_index_or after at [])
-    ends_at at (done, found) = subst (AreAt place at made.ends.loaders) (sym (loaders_at others at done found)) (record {
-      here = λ name goes. made.here place apart at done name found goes;
+        → AreAt position at made.ends.loaders (slice_index_or after at [])
+    ends_at at (done, found) = subst (AreAt position at made.ends.loaders) (sym (loaders_at others at done found)) (record {
+      here = λ name goes. made.here position apart at done name found goes;
       apart = λ name differs. apart at done name found differs;
     })
 
     parted : (at : ℕ) → (done : Share) × (slice_get others at ≡ Some done)
-        → HasPart place said made.history.log (slice_index_or before at []) (slice_index_or after at []) at
+        → HasPart position said made.history.log (slice_index_or before at []) (slice_index_or after at []) at
     parted at (done, found) =
         let from = worked_from shares others at done all found in let acted = from.worked.acted in
-        let fresh = (at_place (IsReady shared) shares at from.share dealt.ready from.is).fresh in
+        let fresh = (at_position (IsReady shared) shares at from.share dealt.ready from.is).fresh in
         let its = seat_at (HasOwn made.history.log) others at done
         (recursion_from_All (HasOwn made.history.log) (map seat_of others) made.history.own) found in
-        subst (λ (l : List (ℕ × LoaderView)). HasPart place said made.history.log l (slice_index_or after at []) at)
+        subst (λ (l : List (ℕ × LoaderView)). HasPart position said made.history.log l (slice_index_or after at []) at)
         (sym (loaders_at shares at from.share from.is))
-        (subst (λ (l : List (ℕ × LoaderView)). HasPart place said made.history.log from.share.loaders l at)
+        (subst (λ (l : List (ℕ × LoaderView)). HasPart position said made.history.log from.share.loaders l at)
         (sym (loaders_at others at done found)) (record {
           acts = acted.acts;
           works = acted.works;
@@ -114,9 +114,9 @@ phase_of worker share place shared shares others lines added said loaders old ne
               ∙ ap (λ (n : ℕ). events_of n made.history.log) (acted.number ∙ dealt.numbers at from.share from.is);
         }))
 
-    woven : AreWoven place said shared.first made.last before after
+    woven : AreWoven position said shared.first made.last before after
     woven =
-        ordered place said shared.first made.last before after made.history.log
+        ordered position said shared.first made.last before after made.history.log
         (length-map others team_of ∙ sym many) made.history.chain
         (subst (λ (n : ℕ). AreBelow n made.history.log) (length-map others seat_of ∙ sym many) made.history.numbered)
         (λ at less. parted at (done_at at less))
@@ -125,7 +125,7 @@ phase_of worker share place shared shares others lines added said loaders old ne
     ran =
         subst (λ (m : Machine). IsOneRun worker m said new) (sym machine)
         (subst (λ (m : Machine). IsOneRun worker (machine_of shared.first loaders) said m) (sym made.ends.machine)
-        (one_run place shared.first made.last before after loaders made.ends.loaders said woven.order worker share
+        (one_run position shared.first made.last before after loaders made.ends.loaders said woven.order worker share
         together
         (λ name. omega (arith, many, same_count shares others all, dealt.within name))
         (λ at less. begins_at at (done_at at less)) (λ at less. ends_at at (done_at at less)) woven.runs woven.keeps
@@ -135,13 +135,13 @@ phase_of worker share place shared shares others lines added said loaders old ne
     purges =
         let done = (there None).0 in
         let found = (there None).1 in
-        let from = worked_from shares others (place None) done all found in
+        let from = worked_from shares others (position None) done all found in
         let its =
         recursion_from_All IsDoneIfPurge (said_in from.share.tasks.items done.replies.items) from.worked.purges in
         let whole = merged _ done found ∙ ap (λ (l : List Task). said_in l done.replies.items) from.worked.tasks in
         All-from_recursion IsDoneIfPurge said
-        (purged_all (λ (s : Said). place (loader_of s.0) == place None)
-        (λ s e. eq-eqb _ _ (ap (λ (step : Step). place (loader_of step)) e)) said
+        (purged_all (λ (s : Said). position (loader_of s.0) == position None)
+        (λ s e. eq-eqb _ _ (ap (λ (step : Step). position (loader_of step)) e)) said
         (subst (AllByRecursion IsDoneIfPurge) (sym whole) its))
 
 -- A phase comes after what there was before it.
@@ -186,9 +186,9 @@ ended_alone worker lines old new added was good steps goes = λ course taken.
 
 -- All of a worker's lines go to its share, once it is found which workers have lines.
 same_worker : (old new : TurnState) → IsSameTurn old new → (name : Option ℕ)
-    → place_in new name ≡ place_of new (worker_in old name)
+    → position_in new name ≡ position_of new (worker_in old name)
 same_worker old new same None = refl
-same_worker old new same (Some name) = ap (place_of new)
+same_worker old new same (Some name) = ap (position_of new)
     (ap (λ (l : List ℕ). (slice_index_or l name 0 + new.phase) % new.workers) same.first
     ∙ ap (λ (n : ℕ). (slice_index_or old.first name 0 + n) % new.workers) same.phase
     ∙ ap (λ (n : ℕ). (slice_index_or old.first name 0 + old.phase) % n) same.workers)
@@ -196,19 +196,19 @@ same_worker old new same (Some name) = ap (place_of new)
 pub ended : (old_turn turn : TurnState) (shared : LockState) (shares others : List Share) (lines : List Line)
     (added : List Answer) (said : List Said) (loaders : List (ℕ × LoaderView)) (old new : Machine)
     → IsSameTurn old_turn turn
-    → AreDealt (place_for (place_in turn) lines) shared shares lines loaders
+    → AreDealt (position_for (position_in turn) lines) shared shares lines loaders
     → AllWorked shares others
-    → AreSaid lines added said → AreMerged (place_in turn) others said
+    → AreSaid lines added said → AreMerged (position_in turn) others said
     → IsGood old → IsGood new
     → old ≡ machine_of shared.first loaders → AreTogether shared.first loaders → IsMadeFrom shared.first others new
     → new.limits ≡ shared.first.limits → shared.first.limits ≡ old.limits
     → IsPhase (worker_in old_turn) old lines added new
 ended old_turn turn shared shares others lines added said loaders old new same_turn dealt all said_are merged
     was_good good machine together made limits same =
-    let place : Place = place_for (place_in turn) lines in
-    phase_of (worker_in old_turn) (place_of turn) place shared shares others lines added said loaders old new
-    dealt all said_are (same_merged (place_in turn) others lines added said said_are merged)
+    let position : Position = position_for (position_in turn) lines in
+    phase_of (worker_in old_turn) (position_of turn) position shared shares others lines added said loaders old new
+    dealt all said_are (same_merged (position_in turn) others lines added said said_are merged)
     was_good good machine together made
     (limits ∙ same)
-    (all_placed (place_in turn) (λ name. place_of turn (worker_in old_turn name))
+    (all_at_positions (position_in turn) (λ name. position_of turn (worker_in old_turn name))
     (same_worker old_turn turn same_turn) lines added said said_are)

@@ -22,7 +22,7 @@ use Rattle.ms_trace.specs.declared.trace.Command.{Command}
 use Rattle.ms_trace.specs.declared.trace.Command.TheVariants.{Step as Asks}
 use Rattle.ms_trace.specs.declared.trace.Line.{Line}
 use Rattle.ms_trace.specs.Steps.{step_of}
-use Rattle.ms_run.specs.Turn.{TurnState, shares_in, place_in, worker_by, AreFirst, IsNumbered, AssignsTo, Assigns}
+use Rattle.ms_run.specs.Turn.{TurnState, shares_in, position_in, worker_by, AreFirst, IsNumbered, AssignsTo, Assigns}
 use Rattle.ms_run.specs.Shares.{AreWithin}
 
 -- A name after others, where it isn't among them.
@@ -264,6 +264,6 @@ by_turn lines workers first at phase numbered is = record {
       ∙ ap (λ (n : ℕ). (number % workers + n) % workers) is ∙ sym (add-mod number phase workers);
 }
 
--- Each place is that of a share.
-pub place_within : (turn : TurnState) → 1 ≤ shares_in turn → AreWithin (place_in turn) (shares_in turn)
-place_within turn some name = omega (arith, some)
+-- Each position is that of a share.
+pub position_within : (turn : TurnState) → 1 ≤ shares_in turn → AreWithin (position_in turn) (shares_in turn)
+position_within turn some name = omega (arith, some)

@@ -20,7 +20,7 @@ use Rattle.ms_run.specs.Acts.{Act, Works, said_of}
 use Rattle.std.specs.Prelude.{slice_index_or}
 use Rattle.ms_run.specs.declared.share.Task.{Task}
 use Rattle.ms_run.specs.declared.share.Share.{Share}
-use Rattle.ms_run.specs.Shares.{AllWorked, AreApart, HaveTasks, IsMannedShare, IsReady, IsWorked, Place, said_in, tasks_of}
+use Rattle.ms_run.specs.Shares.{AllWorked, AreApart, HaveTasks, IsMannedShare, IsReady, IsWorked, Position, said_in, tasks_of}
 use Rattle.ms_run.specs.Shares.{AreAnswered}
 
 -- The share that became one that is worked.
@@ -48,14 +48,14 @@ same_count [] (other ∷ others) all = absurd all
 same_count (share ∷ shares) [] all = absurd all
 same_count (share ∷ shares) (other ∷ others) all = ap (λ (n : ℕ). suc n) (same_count shares others all.1)
 
--- What holds of each place's share holds of each.
-each_place : (P : Share → Type 0) (shares : List Share)
+-- What holds of each position's share holds of each.
+each_position : (P : Share → Type 0) (shares : List Share)
     → ((at : ℕ) (share : Share) → slice_get shares at ≡ Some share → P share) → All P shares
-each_place P shares holds = λ k d within. holds k (get_or shares k d) (slice_get-get_or shares k d within)
+each_position P shares holds = λ k d within. holds k (get_or shares k d) (slice_get-get_or shares k d within)
 
-pub at_place : (P : Share → Type 0) (shares : List Share) (at : ℕ) (share : Share) → All P shares
+pub at_position : (P : Share → Type 0) (shares : List Share) (at : ℕ) (share : Share) → All P shares
     → slice_get shares at ≡ Some share → P share
-at_place P shares at share all found =
+at_position P shares at share all found =
     subst P (get_or_from_slice_get shares at share share found) (all at share (slice_get_within shares at share found))
 
 -- Worked shares stand over the lock that they stood over, and serve their loaders.
@@ -63,32 +63,32 @@ pub own_seats : (shared : LockState) (shares others : List Share) → All (IsRea
     → AllWorked shares others
     → All (λ (share : Share). share.seat.id ≡ shared.id) others
 own_seats shared shares others ready all =
-    each_place (λ (share : Share). share.seat.id ≡ shared.id) others
+    each_position (λ (share : Share). share.seat.id ≡ shared.id) others
     (λ at done found. let from = worked_from shares others at done all found in
-    from.worked.id ∙ (at_place (IsReady shared) shares at from.share ready from.is).own)
+    from.worked.id ∙ (at_position (IsReady shared) shares at from.share ready from.is).own)
 
 pub all_manned : (shares others : List Share) → AllWorked shares others
     → All IsMannedShare others
 all_manned shares others all =
-    each_place IsMannedShare others
+    each_position IsMannedShare others
     (λ at done found. (worked_from shares others at done all found).worked.manned)
 
 -- Each has its tasks still, and a reply to each.
-pub all_answered : (place : Place) (shares others : List Share) (lines : List Line) → HaveTasks place shares lines
+pub all_answered : (position : Position) (shares others : List Share) (lines : List Line) → HaveTasks position shares lines
     → AllWorked shares others
-    → AreAnswered place others lines
-all_answered place shares others lines tasks all = λ at done found.
+    → AreAnswered position others lines
+all_answered position shares others lines tasks all = λ at done found.
     let from = worked_from shares others at done all found in (
       from.worked.tasks ∙ tasks at from.share from.is,
       from.worked.replies ∙ from.share.tasks.ok.0 ∙ ap length (sym from.worked.tasks) ∙ sym done.tasks.ok.0,
     )
 
 -- In another share nothing is said of it.
-other_name : (place : Place) (at name : ℕ) → place (Some name) ≢ at → (wanted : Option ℕ) → (place wanted == at) ≡ true
+other_name : (position : Position) (at name : ℕ) → position (Some name) ≢ at → (wanted : Option ℕ) → (position wanted == at) ≡ true
     → is_name name wanted ≡ false
-other_name place at name away None here = refl
-other_name place at name away (Some other) here = false_from_ne_true (other == name)
-    (λ e. away (ap (λ (n : ℕ). place (Some n)) (sym (eqb-true other name e)) ∙ eqb-true (place (Some other)) at here))
+other_name position at name away None here = refl
+other_name position at name away (Some other) here = false_from_ne_true (other == name)
+    (λ e. away (ap (λ (n : ℕ). position (Some n)) (sym (eqb-true other name e)) ∙ eqb-true (position (Some other)) at here))
 
 first_unsaid : (name : ℕ) (task : Task) (tasks : List Task) → is_name name (loader_of task.step) ≡ false
     → ((replies : List Reply) → own_said name (said_in tasks replies) ≡ []) → (replies : List Reply)
@@ -96,17 +96,17 @@ first_unsaid : (name : ℕ) (task : Task) (tasks : List Task) → is_name name (
 first_unsaid name task tasks other rest [] = refl
 first_unsaid name task tasks other rest (reply ∷ replies) = rw other (rest replies)
 
-nothing_said : (place : Place) (at name : ℕ) → place (Some name) ≢ at → (tasks : List Task) (replies : List Reply)
-    → own_said name (said_in (filter (λ (task : Task). place (loader_of task.step) == at) tasks) replies) ≡ []
-nothing_said place at name away [] replies = refl
-nothing_said place at name away (task ∷ tasks) replies =
-    elim (place (loader_of task.step) == at) as (λ b. (place (loader_of task.step) == at) ≡ b
+nothing_said : (position : Position) (at name : ℕ) → position (Some name) ≢ at → (tasks : List Task) (replies : List Reply)
+    → own_said name (said_in (filter (λ (task : Task). position (loader_of task.step) == at) tasks) replies) ≡ []
+nothing_said position at name away [] replies = refl
+nothing_said position at name away (task ∷ tasks) replies =
+    elim (position (loader_of task.step) == at) as (λ b. (position (loader_of task.step) == at) ≡ b
     → own_said name
-    (said_in (cond b (task ∷ filter (λ (t : Task). place (loader_of t.step) == at) tasks)
-    (filter (λ (t : Task). place (loader_of t.step) == at) tasks)) replies) ≡ []) [
-      | true ↦ λ here. first_unsaid name task _ (other_name place at name away (loader_of task.step) here)
-          (nothing_said place at name away tasks) replies
-      | false ↦ λ past. nothing_said place at name away tasks replies
+    (said_in (cond b (task ∷ filter (λ (t : Task). position (loader_of t.step) == at) tasks)
+    (filter (λ (t : Task). position (loader_of t.step) == at) tasks)) replies) ≡ []) [
+      | true ↦ λ here. first_unsaid name task _ (other_name position at name away (loader_of task.step) here)
+          (nothing_said position at name away tasks) replies
+      | false ↦ λ past. nothing_said position at name away tasks replies
     ] refl
 
 -- Acts of which none names a loader leave it.
@@ -122,19 +122,19 @@ works_others name old (act ∷ acts) new (mid, one, works) none = elim (names_or
 ]
 
 -- A loader isn't begun in a share that its lines don't go to.
-pub still_apart : (place : Place) (shares others : List Share) (lines : List Line) → AreApart place shares
-    → HaveTasks place shares lines
-    → AllWorked shares others → AreApart place others
-still_apart place shares others lines apart tasks all = λ at done name found away.
+pub still_apart : (position : Position) (shares others : List Share) (lines : List Line) → AreApart position shares
+    → HaveTasks position shares lines
+    → AllWorked shares others → AreApart position others
+still_apart position shares others lines apart tasks all = λ at done name found away.
     let from = worked_from shares others at done all found in
     let acted = from.worked.acted in
     let nothing =
     subst (λ (l : List Task). own_said name (said_in l done.replies.items) ≡ []) (sym (tasks at from.share from.is))
-    (nothing_said place at name away (tasks_of lines) done.replies.items) in
+    (nothing_said position at name away (tasks_of lines) done.replies.items) in
     works_others name from.share.loaders acted.acts done.loaders acted.works (ap (own_said name) acted.said_are ∙ nothing)
     ∙ apart at from.share name from.is away
 
--- There is a share at a place within.
+-- There is a share at a position within.
 pub share_at : (shares : List Share) (at : ℕ) → at < length shares → (share : Share) × (slice_get shares at ≡ Some share)
 share_at [] at within = absurd (omega (arith, within))
 share_at (share ∷ shares) zero within = (share, refl)
@@ -155,7 +155,7 @@ purged_all wider lets (s ∷ said) all =
       | false ↦ λ stays all. ((λ e. let yes = lets s e in absurd (cc)), purged_all wider lets said all)
     ] refl all
 
--- What holds of all seats holds of the one at a place.
+-- What holds of all seats holds of the one at a position.
 pub seat_at : (P : SeatState → Type 0) (shares : List Share) (at : ℕ) (share : Share)
     → AllByRecursion P (map seat_of shares) → slice_get shares at ≡ Some share → P share.seat
 seat_at P [] at share all found = absurd (cc)

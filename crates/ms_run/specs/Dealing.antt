@@ -14,7 +14,7 @@ use Rattle.ms_shared.specs.SeatView.{SeatState, LockState}
 use Rattle.ms_shared.specs.MeterRule.{MeterSeatState, MeterState}
 use Rattle.ms_run.specs.Manned.{IsManned}
 use Rattle.ms_run.specs.Metering.{meter_of, unmoved}
-use Rattle.ms_run.specs.Shares.{Place, IsReady, tasks_at}
+use Rattle.ms_run.specs.Shares.{Position, IsReady, tasks_at}
 use Rattle.ms_run.specs.declared.share.Task.{Task}
 use Rattle.ms_run.specs.declared.share.Share.{Share}
 
@@ -66,10 +66,10 @@ pub record AreHanded (names : List ℕ) (loaders after others : Loaded) : Type 0
   pub apart : (name : ℕ) → is_among names name ≡ false
       → (named others name ≡ None) × (named after name ≡ named loaders name)
 
--- All loaders of a place did.
-pub record AreHandedAt (place : Place) (at : ℕ) (loaders after others : Loaded) : Type 0 where
-  pub here : (name : ℕ) → place (Some name) ≡ at → (named others name ≡ named loaders name) × (named after name ≡ None)
-  pub apart : (name : ℕ) → place (Some name) ≢ at → (named others name ≡ None) × (named after name ≡ named loaders name)
+-- All loaders of a position did.
+pub record AreHandedAt (position : Position) (at : ℕ) (loaders after others : Loaded) : Type 0 where
+  pub here : (name : ℕ) → position (Some name) ≡ at → (named others name ≡ named loaders name) × (named after name ≡ None)
+  pub apart : (name : ℕ) → position (Some name) ≢ at → (named others name ≡ None) × (named after name ≡ named loaders name)
 
 -- The first seat serves all loaders, and the others nothing. They are numbered, and none has an
 -- event.
@@ -82,20 +82,20 @@ pub record AreSeats (shared : LockState) (seats : List SeatState) (loaders : Loa
   pub manned : IsManned first.knows loaders
   pub free : All (λ (seat : SeatState). (seat.id ≡ shared.id) × IsManned seat.knows []) others
 
--- The share of a place: it has the tasks and the loaders of it.
-pub record IsShareAt (place : Place) (shared : LockState) (lines : List Line) (loaders : Loaded) (at : ℕ)
+-- The share of a position: it has the tasks and the loaders of it.
+pub record IsShareAt (position : Position) (shared : LockState) (lines : List Line) (loaders : Loaded) (at : ℕ)
     (share : Share) : Type 0 where
   pub ready : IsReady shared share
   pub number : share.seat.number ≡ at
-  pub apart : (name : ℕ) → place (Some name) ≢ at → named share.loaders name ≡ None
-  pub here : (name : ℕ) → place (Some name) ≡ at → named share.loaders name ≡ named loaders name
-  pub tasks : share.tasks.items ≡ tasks_at place at lines
+  pub apart : (name : ℕ) → position (Some name) ≢ at → named share.loaders name ≡ None
+  pub here : (name : ℕ) → position (Some name) ≡ at → named share.loaders name ≡ named loaders name
+  pub tasks : share.tasks.items ≡ tasks_at position at lines
 
--- Shares of the places from one on.
-abbrev pub AreSharesFrom : Place → LockState → List Line → Loaded → ℕ → List Share → Type 0
-AreSharesFrom place shared lines loaders at [] = Unit {0}
-AreSharesFrom place shared lines loaders at (share ∷ shares) =
-    IsShareAt place shared lines loaders at share × AreSharesFrom place shared lines loaders (suc at) shares
+-- Shares of the positions from one on.
+abbrev pub AreSharesFrom : Position → LockState → List Line → Loaded → ℕ → List Share → Type 0
+AreSharesFrom position shared lines loaders at [] = Unit {0}
+AreSharesFrom position shared lines loaders at (share ∷ shares) =
+    IsShareAt position shared lines loaders at share × AreSharesFrom position shared lines loaders (suc at) shares
 
 -- A share newly made for a worker: it has these tasks and this seat of the meter, room for all
 -- replies, and none yet.
@@ -106,13 +106,13 @@ pub record IsNewShare (worker : ℕ) (tasks : List Task) (meter : MeterSeatState
   pub room : vec_len share.tasks ≤ vec_capacity share.replies
   pub none : share.replies.items ≡ []
 
--- There are so many shares; where all places are of them, each has what is its own.
-pub record AreDealtTo (place : Place) (shared : LockState) (count : ℕ) (lines : List Line) (loaders : Loaded)
+-- There are so many shares; where all positions are of them, each has what is its own.
+pub record AreDealtTo (position : Position) (shared : LockState) (count : ℕ) (lines : List Line) (loaders : Loaded)
     (shares : List Share) : Type 0 where
   pub count_is : length shares ≡ count
-  pub each : ((name : ℕ) → place (Some name) < count) → AreSharesFrom place shared lines loaders 0 shares
+  pub each : ((name : ℕ) → position (Some name) < count) → AreSharesFrom position shared lines loaders 0 shares
 
--- Shares of the places from a number on are the workers' that stand there.
+-- Shares of the positions from a number on are the workers' that stand there.
 abbrev pub AreWorkersFrom : List ℕ → ℕ → List Share → Type 0
 AreWorkersFrom active at [] = Unit {0}
 AreWorkersFrom active at (share ∷ shares) =
@@ -123,16 +123,16 @@ abbrev pub TaskLists : Type 0
 TaskLists = List (Vec Task Global)
 
 -- Each share's list has the tasks of the lines that go to it.
-abbrev pub AreListed : Place → List Line → TaskLists → Type 0
-AreListed place lines lists =
-    (at : ℕ) (list : Vec Task Global) → slice_get lists at ≡ Some list → list.items ≡ tasks_at place at lines
+abbrev pub AreListed : Position → List Line → TaskLists → Type 0
+AreListed position lines lists =
+    (at : ℕ) (list : Vec Task Global) → slice_get lists at ≡ Some list → list.items ≡ tasks_at position at lines
 
 abbrev pub AreEmpty : TaskLists → Type 0
 AreEmpty lists = (at : ℕ) (list : Vec Task Global) → slice_get lists at ≡ Some list → list.items ≡ []
 
 -- Each share's list has those of some more tasks that go to it.
-abbrev pub AreAdded : List Task → Place → TaskLists → TaskLists → Type 0
-AreAdded tasks place lists new =
+abbrev pub AreAdded : List Task → Position → TaskLists → TaskLists → Type 0
+AreAdded tasks position lists new =
     (at : ℕ) (list : Vec Task Global) → slice_get new at ≡ Some list
     → (was : Vec Task Global) × (slice_get lists at ≡ Some was)
-    × (list.items ≡ was.items ++ filter (λ (task : Task). place (loader_of task.step) == at) tasks)
+    × (list.items ≡ was.items ++ filter (λ (task : Task). position (loader_of task.step) == at) tasks)

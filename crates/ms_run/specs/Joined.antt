@@ -11,7 +11,7 @@ use Rattle.ms_shared.specs.SeatView.{SeatState, IsHistory}
 use Rattle.ms_loaders.specs.System.{machine_of, AreTogether}
 use Rattle.ms_base.specs.Good.{IsGood}
 use Rattle.ms_run.specs.Metering.{used_over, used_words_of}
-use Rattle.ms_run.specs.Shares.{Place, AreApart, AreHere, IsGathered}
+use Rattle.ms_run.specs.Shares.{Position, AreApart, AreHere, IsGathered}
 use Rattle.ms_run.specs.declared.share.Share.{Share}
 
 -- No name is in both.
@@ -45,12 +45,12 @@ pub record IsMadeFrom (first : Ledger) (shares : List Share) (state : Machine) :
   pub last : Ledger
   pub ends : IsMachineOf last state
   pub history : IsHistory first (map seat_of shares) last
-  pub here : (place : Place) → AreApart place shares → AreHere place shares ends.loaders
+  pub here : (position : Position) → AreApart position shares → AreHere position shares ends.loaders
 
 -- The state that worked shares end in, over a lock whose pool was this at first: a good one of the
 -- same limits, which the one history of their events makes, and which has the loaders of all of them.
 pub record IsEnded (first : Ledger) (shares : List Share) (state : Machine) : Type 0 where
-  pub gathered : (place : Place) → AreApart place shares → IsGathered place shares state.loaders
+  pub gathered : (position : Position) → AreApart position shares → IsGathered position shares state.loaders
   pub good : IsGood state
   pub limits : state.limits ≡ first.limits
   pub history : IsMadeFrom first shares state

@@ -68,9 +68,9 @@ AllWorked (share ∷ shares) (done ∷ others) = IsWorked share done × AllWorke
 AllWorked _ _ = ⊥
 
 -- Where the lines of each loader go in a phase, by the loader's name, and those of a purge: to
--- which share, by its place.
-abbrev pub Place : Type 0
-Place = Option ℕ → ℕ
+-- which share, by its position.
+abbrev pub Position : Type 0
+Position = Option ℕ → ℕ
 
 -- The tasks that the lines make for one share.
 abbrev pub task_of : Line → Option Step → List Task → List Task
@@ -81,8 +81,8 @@ abbrev pub tasks_of : List Line → List Task
 tasks_of [] = []
 tasks_of (line ∷ lines) = task_of line (step_of line.command) (tasks_of lines)
 
-abbrev pub tasks_at : Place → ℕ → List Line → List Task
-tasks_at place at lines = filter (λ (task : Task). place (loader_of task.step) == at) (tasks_of lines)
+abbrev pub tasks_at : Position → ℕ → List Line → List Task
+tasks_at position at lines = filter (λ (task : Task). position (loader_of task.step) == at) (tasks_of lines)
 
 -- The loaders that tasks name.
 abbrev pub name_with : Option ℕ → List ℕ → List ℕ
@@ -93,36 +93,36 @@ abbrev pub names_in : List Task → List ℕ
 names_in [] = []
 names_in (task ∷ tasks) = name_with (loader_of task.step) (names_in tasks)
 
--- A loader that is named keeps its place, and any other stands by in the first share.
-abbrev pub placed_by : Place → List ℕ → Place
-placed_by place names None = place None
-placed_by place names (Some name) = cond (is_among names name) (place (Some name)) 0
+-- A loader that is named keeps its position, and any other stands by in the first share.
+abbrev pub position_by : Position → List ℕ → Position
+position_by position names None = position None
+position_by position names (Some name) = cond (is_among names name) (position (Some name)) 0
 
--- So each loader's place in a phase, by its lines.
-abbrev pub place_for : Place → List Line → Place
-place_for place lines = placed_by place (names_in (tasks_of lines))
+-- So each loader's position in a phase, by its lines.
+abbrev pub position_for : Position → List Line → Position
+position_for position lines = position_by position (names_in (tasks_of lines))
 
--- Some loaders are those of a place.
-pub record AreAt (place : Place) (at : ℕ) (all part : List (ℕ × LoaderView)) : Type 0 where
-  pub here : (name : ℕ) → place (Some name) ≡ at → named part name ≡ named all name
-  pub apart : (name : ℕ) → place (Some name) ≢ at → named part name ≡ None
+-- Some loaders are those of a position.
+pub record AreAt (position : Position) (at : ℕ) (all part : List (ℕ × LoaderView)) : Type 0 where
+  pub here : (name : ℕ) → position (Some name) ≡ at → named part name ≡ named all name
+  pub apart : (name : ℕ) → position (Some name) ≢ at → named part name ≡ None
 
 -- A loader is in no share but the one that its lines go to.
-abbrev pub AreApart : Place → List Share → Type 0
-AreApart place shares =
-    (at : ℕ) (share : Share) (name : ℕ) → slice_get shares at ≡ Some share → place (Some name) ≢ at
+abbrev pub AreApart : Position → List Share → Type 0
+AreApart position shares =
+    (at : ℕ) (share : Share) (name : ℕ) → slice_get shares at ≡ Some share → position (Some name) ≢ at
     → named share.loaders name ≡ None
 
 -- Each loader is in the share that its lines go to, and is there as it was.
-abbrev pub AreHere : Place → List Share → List (ℕ × LoaderView) → Type 0
-AreHere place shares loaders =
-    (at : ℕ) (share : Share) (name : ℕ) → slice_get shares at ≡ Some share → place (Some name) ≡ at
+abbrev pub AreHere : Position → List Share → List (ℕ × LoaderView) → Type 0
+AreHere position shares loaders =
+    (at : ℕ) (share : Share) (name : ℕ) → slice_get shares at ≡ Some share → position (Some name) ≡ at
     → named share.loaders name ≡ named loaders name
 
 -- Each share has the tasks of the lines that go to it.
-abbrev pub HaveTasks : Place → List Share → List Line → Type 0
-HaveTasks place shares lines =
-    (at : ℕ) (share : Share) → slice_get shares at ≡ Some share → share.tasks.items ≡ tasks_at place at lines
+abbrev pub HaveTasks : Position → List Share → List Line → Type 0
+HaveTasks position shares lines =
+    (at : ℕ) (share : Share) → slice_get shares at ≡ Some share → share.tasks.items ≡ tasks_at position at lines
 
 -- Each share has only tasks whose worker works it.
 abbrev pub AreWorkedByTurn : (Option ℕ → ℕ) → List Share → Type 0
@@ -135,23 +135,23 @@ pub record AreOfTurn (turn : TurnState) (shares : List Share) : Type 0 where
   pub count : length shares ≡ shares_in turn
   pub workers : AreWorkedByTurn (worker_in turn) shares
 
--- Each share's seat has the number of its place.
+-- Each share's seat has the number of its position.
 abbrev pub AreNumbered : List Share → Type 0
 AreNumbered shares = (at : ℕ) (share : Share) → slice_get shares at ≡ Some share → share.seat.number ≡ at
 
 -- All go to one of so many shares.
-abbrev pub AreWithin : Place → ℕ → Type 0
-AreWithin place count = (name : Option ℕ) → place name < count
+abbrev pub AreWithin : Position → ℕ → Type 0
+AreWithin position count = (name : Option ℕ) → position name < count
 
 -- A phase's lines and loaders are dealt to shares.
-pub record AreDealt (place : Place) (shared : LockState) (shares : List Share) (lines : List Line)
+pub record AreDealt (position : Position) (shared : LockState) (shares : List Share) (lines : List Line)
     (loaders : List (ℕ × LoaderView)) : Type 0 where
   pub ready : All (IsReady shared) shares
   pub count : shared.seats ≡ length shares
-  pub within : AreWithin place (length shares)
-  pub apart : AreApart place shares
-  pub here : AreHere place shares loaders
-  pub tasks : HaveTasks place shares lines
+  pub within : AreWithin position (length shares)
+  pub apart : AreApart position shares
+  pub here : AreHere position shares loaders
+  pub tasks : HaveTasks position shares lines
   pub numbers : AreNumbered shares
 
 -- Each line asks a step.
@@ -159,19 +159,19 @@ abbrev pub AreSteps : List Line → Type 0
 AreSteps lines = All (λ (line : Line). (step : Step) × (step_of line.command ≡ Some step)) lines
 
 -- Each share has a reply to each of its tasks, which are those of the lines that go to it.
-abbrev pub AreAnswered : Place → List Share → List Line → Type 0
-AreAnswered place shares lines =
+abbrev pub AreAnswered : Position → List Share → List Line → Type 0
+AreAnswered position shares lines =
     (at : ℕ) (share : Share) → slice_get shares at ≡ Some share
-    → (share.tasks.items ≡ tasks_at place at lines) × (vec_len share.replies ≡ vec_len share.tasks)
+    → (share.tasks.items ≡ tasks_at position at lines) × (vec_len share.replies ≡ vec_len share.tasks)
 
 -- What was said in a phase is, for each share, what was said in it.
-abbrev pub AreMerged : Place → List Share → List Said → Type 0
-AreMerged place shares said =
+abbrev pub AreMerged : Position → List Share → List Said → Type 0
+AreMerged position shares said =
     (at : ℕ) (share : Share) → slice_get shares at ≡ Some share
-    → filter (λ (s : Said). place (loader_of s.0) == at) said ≡ said_in share.tasks.items share.replies.items
+    → filter (λ (s : Said). position (loader_of s.0) == at) said ≡ said_in share.tasks.items share.replies.items
 
 -- The loaders of all shares are together, each as it is in its share.
-abbrev pub IsGathered : Place → List Share → List (ℕ × LoaderState) → Type 0
-IsGathered place shares loaders =
-    (at : ℕ) (share : Share) (name : ℕ) → slice_get shares at ≡ Some share → place (Some name) ≡ at
+abbrev pub IsGathered : Position → List Share → List (ℕ × LoaderState) → Type 0
+IsGathered position shares loaders =
+    (at : ℕ) (share : Share) (name : ℕ) → slice_get shares at ≡ Some share → position (Some name) ≡ at
     → named loaders name ≡ named (states_of share.loaders) name

@@ -10,13 +10,13 @@ use Rattle.ms_trace.specs.declared.trace.Line.{Line}
 use Rattle.ms_run.specs.Workers.{loaders_in}
 
 -- By loader name its worker in phase 0; the phase's number; how many workers there are; those that
--- have a share, in the order of the shares; and by worker the place of its share.
+-- have a share, in the order of the shares; and by worker the position of its share.
 pub record TurnState : Type 0 where
   pub first : List ℕ
   pub phase : ℕ
   pub workers : ℕ
   pub active : List ℕ
-  pub places : List ℕ
+  pub positions : List ℕ
 
 -- How many shares there are.
 abbrev pub shares_in : TurnState → ℕ
@@ -32,28 +32,28 @@ worker_by first phase workers (Some name) = (slice_index_or first name 0 + phase
 abbrev pub worker_in : TurnState → Option ℕ → ℕ
 worker_in turn name = worker_by turn.first turn.phase turn.workers name
 
--- The place of a worker's share.
-abbrev pub place_of : TurnState → ℕ → ℕ
-place_of turn worker = min (slice_index_or turn.places worker 0) (shares_in turn - 1)
+-- The position of a worker's share.
+abbrev pub position_of : TurnState → ℕ → ℕ
+position_of turn worker = min (slice_index_or turn.positions worker 0) (shares_in turn - 1)
 
--- The place of the share that has the lines of a loader, and of a purge.
-abbrev pub place_in : TurnState → Option ℕ → ℕ
-place_in turn name = place_of turn (worker_in turn name)
+-- The position of the share that has the lines of a loader, and of a purge.
+abbrev pub position_in : TurnState → Option ℕ → ℕ
+position_in turn name = position_of turn (worker_in turn name)
 
 -- The share that has a step is one of the worker whose turn it is.
 abbrev pub HasOwnShare : TurnState → Option Step → Type 0
 HasOwnShare turn None = ⊤
 HasOwnShare turn (Some step) =
-    slice_index_or turn.active (place_in turn (loader_of step)) 0 ≡ worker_in turn (loader_of step)
+    slice_index_or turn.active (position_in turn (loader_of step)) 0 ≡ worker_in turn (loader_of step)
 
 -- Each line that asks a step has a share of its own worker.
 abbrev pub HaveOwnShares : TurnState → List Line → Type 0
 HaveOwnShares turn lines = All (λ (line : Line). HasOwnShare turn (step_of line.command)) lines
 
--- A worker that has no share yet gets one after the others, and its place is told.
-pub record AddsWorker (active places : List ℕ) (worker : ℕ) (new_active new_places : List ℕ) : Type 0 where
+-- A worker that has no share yet gets one after the others, and its position is told.
+pub record AddsWorker (active positions : List ℕ) (worker : ℕ) (new_active new_positions : List ℕ) : Type 0 where
   pub active_is : new_active ≡ cond (is_among active worker) active (active ++ worker ∷ [])
-  pub places_is : new_places ≡ cond (is_among active worker) places (slice_set places worker (length active))
+  pub positions_is : new_positions ≡ cond (is_among active worker) positions (slice_set positions worker (length active))
 
 -- There is a share, and at most eight are.
 pub record IsTurn (turn : TurnState) : Type 0 where

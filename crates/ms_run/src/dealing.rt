@@ -7,7 +7,7 @@
 //! Kept true: lines and loader of one name are in one share, whose seat serves the loader. The
 //! first share's seat serves all at first, and hands on what the others' lines name, so a loader
 //! that stands by stays there. Each share has a seat of the phase's meter, with nothing counted
-//! yet. Takes memory for seats, lists of tasks and of replies, and places of loaders; nothing
+//! yet. Takes memory for seats, lists of tasks and of replies, and positions of loaders; nothing
 //! waits.
 ghost use Rattle.std.specs.Prelude.{◌≡◌, ◌+◌, ◌∷◌, [], ◌≤◌, map, IfOk, OnOk, vec_len};
 ghost use Rattle.std.specs.Prelude.{◌<◌};
@@ -15,14 +15,14 @@ ghost use Rattle.std.specs.Prelude.{◌≢◌, ℕ, IsTrue, Some, slice_get};
 ghost use Rattle.std.specs.Option.{is_some};
 ghost use Rattle.ms_base.specs.declared.kind.Space.TheVariants.{NonClass, Class};
 ghost use Rattle.ms_base.specs.Names.{named};
-ghost use Rattle.ms_run.specs.Turn.{HaveOwnShares, shares_in, place_in};
+ghost use Rattle.ms_run.specs.Turn.{HaveOwnShares, shares_in, position_in};
 ghost use Rattle.ms_loaders.specs.Loader.{account_in};
 ghost use Rattle.ms_loaders.specs.System.{AreTogether};
 ghost use Rattle.ms_loaders.specs.Used.{used_in};
 ghost use Rattle.ms_shared.specs.SeatView.{ServesBy, new_seats, opened_by, with_account};
 ghost use Rattle.ms_shared.specs.SeatView.{without_account};
 ghost use Rattle.ms_run.specs.Metering.{used_over, meter_of};
-ghost use Rattle.ms_run.specs.Shares.{AreDealt, AreSteps, tasks_of, names_in, place_for};
+ghost use Rattle.ms_run.specs.Shares.{AreDealt, AreSteps, tasks_of, names_in, position_for};
 ghost use Rattle.ms_run.specs.Dealing.{AreCrews, AreListed, AreEmpty, AreAdded, IsHanded};
 ghost use Rattle.ms_run.specs.Dealing.{AreHanded, AreSeats};
 ghost use Rattle.ms_run.specs.Dealing.{AreDealtTo, AreWorkersFrom, HaveMeters, IsNewShare, IsSameSeat};
@@ -58,7 +58,7 @@ pub fn deal(
     requires steps { AreSteps lines.now }
     requires shared { HaveOwnShares turn.now lines.now }
     ensures workers { IfOk result (λ made. AreOfTurn turn.now made.1.items) }
-    ensures dealt { IfOk result (λ made. AreDealt (place_for (place_in turn.now) lines.now)
+    ensures dealt { IfOk result (λ made. AreDealt (position_for (position_in turn.now) lines.now)
         made.0 made.1.items lines.now loaders) }
     ensures first { IfOk result (λ made. made.0.first ≡ pool) }
     ensures meters { IfOk result (λ made. HaveMeters made.2 (vec_len made.1) made.1.items) }
@@ -83,7 +83,7 @@ fn deal_metered(
     requires seats { AreSeats shared.now seats.items loaders }
     ensures workers { IfOk result (λ made. AreWorkersFrom turn.now.active 0 made.0.items) }
     ensures dealt { IfOk result (λ made.
-        AreDealtTo (place_for (place_in turn.now) lines.now) shared.now (vec_len seats) lines.now
+        AreDealtTo (position_for (position_in turn.now) lines.now) shared.now (vec_len seats) lines.now
         loaders
         made.0.items) }
     ensures meters { IfOk result (λ made. HaveMeters made.1 (vec_len made.0) made.0.items) }
@@ -127,7 +127,7 @@ fn deal_to(
     requires meters { vec_len meters ≡ vec_len seats }
     ensures workers { IfOk result (λ shares. AreWorkersFrom turn.now.active 0 shares.items) }
     ensures dealt { IfOk result (λ shares.
-        AreDealtTo (place_for (place_in turn.now) lines.now) shared.now (vec_len seats) lines.now
+        AreDealtTo (position_for (position_in turn.now) lines.now) shared.now (vec_len seats) lines.now
         loaders
         shares.items) }
     ensures meters { IfOk result (λ shares. map meter_of shares.items ≡ meters.items) }
@@ -224,7 +224,7 @@ fn deal_lines(
     count: usize,
 ) -> Result<Vec<Vec<Task>>, AllocError>
     requires count { count ≡ shares_in turn.now }
-    ensures listed { IfOk result (λ lists. AreListed (place_in turn.now) lines.now lists.items) }
+    ensures listed { IfOk result (λ lists. AreListed (position_in turn.now) lines.now lists.items) }
     ensures count { IfOk result (λ lists. vec_len lists ≡ count) }
 {
     let mut lists = empty_lists(alloc, count)?;
@@ -251,12 +251,12 @@ fn add_task(turn: &Turn, line: Line, lists: &mut Vec<Vec<Task>>) -> Result<(), A
     requires count { vec_len lists.old ≡ shares_in turn.now }
     ensures count { vec_len lists.new ≡ vec_len lists.old }
     ensures added { OnOk result
-        (AreAdded (tasks_of (line ∷ [])) (place_in turn.now) lists.old.items lists.new.items) }
+        (AreAdded (tasks_of (line ∷ [])) (position_in turn.now) lists.old.items lists.new.items) }
 {
     let Command::Step(step) = line.command() else {
         return Ok(());
     };
-    let at = turn.place(loader_named(&step));
+    let at = turn.position(loader_named(&step));
     lists[at].push(Task {
         line: line.number(),
         step,

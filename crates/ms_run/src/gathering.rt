@@ -3,7 +3,7 @@
 //!
 //! Kept true: each seat counts just the accounts of its share's loaders, so the parts belong
 //! together, and no name is in two shares. No loader that stands by is looked at. The seats of the
-//! meter come out as they are. Takes memory for seats and for places of loaders; nothing waits.
+//! meter come out as they are. Takes memory for seats and for positions of loaders; nothing waits.
 ghost use Rattle.std.specs.Prelude.{◌≡◌, [], IsOk, IfOk, IfErr, OnOk, None, map, vec_len};
 ghost use Rattle.std.specs.List.{All};
 ghost use Rattle.ms_base.specs.declared.refusal.Refusal.TheVariants as Refusal;
@@ -14,7 +14,7 @@ ghost use Rattle.ms_run.specs.Joined.{HaveOtherNames, IsJoined, AreJoined, IsWan
 ghost use Rattle.ms_run.specs.Joined.{IsEnded};
 ghost use Rattle.ms_run.specs.Joined.{seat_of};
 ghost use Rattle.ms_run.specs.Metering.{meter_of};
-ghost use Rattle.ms_run.specs.Shares.{Place, AreApart, IsMannedShare, StandOver};
+ghost use Rattle.ms_run.specs.Shares.{Position, AreApart, IsMannedShare, StandOver};
 
 use crate::fault::RunFault;
 use crate::share::Share;
@@ -32,7 +32,7 @@ pub fn gather(
     shares: Vec<Share>,
 ) -> Result<(System, Vec<MeterSeat>), RunFault>
     requires stand { StandOver shared (vec_len shares) shares.items }
-    requires apart { (place : Place) × AreApart place shares.items }
+    requires apart { (position : Position) × AreApart position shares.items }
     ensures gathered { IfOk result (λ ended. IsEnded shared.first shares.items ended.0) }
     ensures meters { IfOk result (λ ended. ended.1.items ≡ map meter_of shares.items) }
     ensures wanting { IfErr result (λ fault. fault ≡ RunFault.OutOfMemory) }
@@ -67,7 +67,7 @@ fn take_apart(
     alloc: Global,
     shares: Vec<Share>,
 ) -> Result<(Vec<PoolSeat>, Loaders, Vec<MeterSeat>), RunFault>
-    requires apart { (place : Place) × AreApart place shares.items }
+    requires apart { (position : Position) × AreApart position shares.items }
     requires manned { All IsMannedShare shares.items }
     ensures seats { IfOk result (λ parts. parts.0.items ≡ map seat_of shares.items) }
     ensures loaders { IfOk result (λ parts. AreJoined [] shares.items parts.1) }

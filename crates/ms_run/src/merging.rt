@@ -10,7 +10,7 @@ ghost use Rattle.ms_loaders.specs.declared.replies.Answer.{Answer};
 ghost use Rattle.ms_run.specs.Replay.{AreSaid};
 ghost use Rattle.ms_base.specs.Run.Own.{Said};
 ghost use Rattle.ms_run.specs.Sink.{Puts};
-ghost use Rattle.ms_run.specs.Turn.{shares_in, place_in};
+ghost use Rattle.ms_run.specs.Turn.{shares_in, position_in};
 ghost use Rattle.ms_run.specs.Shares.{AreAnswered, AreMerged, AreSteps};
 
 use crate::share::Share;
@@ -28,17 +28,17 @@ pub fn merge<S: AnswerSink>(
     sink: &mut S,
 ) -> Result<(), AllocError>
     requires count { vec_len shares.now ≡ shares_in turn.now }
-    requires answered { AreAnswered (place_in turn.now) shares.now.items lines.now }
+    requires answered { AreAnswered (position_in turn.now) shares.now.items lines.now }
     requires steps { AreSteps lines.now }
     ensures { OnOk result (Puts S.took (λ answers. (said : List Said) × AreSaid lines.now answers said
-        × AreMerged (place_in turn.now) shares.now.items said) sink.old sink.new) }
+        × AreMerged (position_in turn.now) shares.now.items said) sink.old sink.new) }
 {
     let mut taken = vec![in alloc; 0; shares.len()]?;
     for line in lines {
-        let place = place_of(turn, line);
-        let next = taken[place];
-        let reply = shares[place].replies[next];
-        taken[place] = next + 1;
+        let position = position_of(turn, line);
+        let next = taken[position];
+        let reply = shares[position].replies[next];
+        taken[position] = next + 1;
         sink.put(Answer {
             line: line.number(),
             reply,
@@ -49,13 +49,13 @@ pub fn merge<S: AnswerSink>(
 }
 
 /// Returns which share has a line's reply; a line that asks no step goes where purges go.
-fn place_of(turn: &Turn, line: &Line) -> usize
-    ensures place { (step : Asked) → step_of line.now.command ≡ Some step
-        → result ≡ place_in turn.now (loader_of step) }
+fn position_of(turn: &Turn, line: &Line) -> usize
+    ensures position { (step : Asked) → step_of line.now.command ≡ Some step
+        → result ≡ position_in turn.now (loader_of step) }
     ensures within { result < shares_in turn.now }
 {
     match line.command() {
-        Command::Step(step) => turn.place(loader_named(&step)),
-        Command::Sync | Command::Report => turn.place(None),
+        Command::Step(step) => turn.position(loader_named(&step)),
+        Command::Sync | Command::Report => turn.position(None),
     }
 }

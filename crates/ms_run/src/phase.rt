@@ -18,7 +18,7 @@ ghost use Rattle.ms_run.specs.Counting.{IsCounted};
 ghost use Rattle.ms_run.specs.Joined.{IsEnded};
 ghost use Rattle.ms_run.specs.Gating.{AreGated};
 ghost use Rattle.ms_loaders.specs.declared.details.Detail.{Detail as DetailOf};
-ghost use Rattle.ms_run.specs.Shares.{AreApart, AreSteps, Place, StandOver};
+ghost use Rattle.ms_run.specs.Shares.{AreApart, AreSteps, Position, StandOver};
 ghost use Rattle.ms_run.specs.Metering.{amount_of, meter_of, used_words_of};
 ghost use Rattle.ms_run.specs.Turn.{worker_in, HaveOwnShares, IsSameTurn, TurnState};
 
@@ -132,7 +132,7 @@ fn end_shares(
     meter: UsedMeter,
 ) -> Result<(System, u64), RunFault>
     requires stand { StandOver shared (vec_len shares) shares.items }
-    requires apart { (place : Place) × AreApart place shares.items }
+    requires apart { (position : Position) × AreApart position shares.items }
     requires own { All (λ (seat : MeterSeatState). seat.id ≡ meter.id)
         (map meter_of shares.items) }
     requires count { meter.seats ≡ vec_len shares }

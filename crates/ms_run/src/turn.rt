@@ -2,13 +2,14 @@
 //!
 //!     loader number j, phase k:  worker (j + k) mod W
 //!
-//! A loader's number is its place by first appearance in the trace, from 0 on. A `purge` is worked
-//! by worker 0. Only workers with lines have a share. Takes memory once, for a place for each name.
+//! A loader's number is its position by first appearance in the trace, from 0 on. A `purge` is
+//! worked by worker 0. Only workers with lines have a share. Takes memory once, for a position for
+//! each name.
 ghost use Rattle.std.specs.Prelude.{◌≡◌, ◌+◌, ◌%◌, ◌<◌, ◌≤◌, ◌++◌, ◌∷◌, [], List, IfOk, length};
 ghost use Rattle.std.specs.Prelude.{vec_len, vec_capacity, slice_index_or};
 ghost use Rattle.ms_base.specs.Request.{loader_of};
 ghost use Rattle.ms_trace.specs.declared.trace.Line.{Line as LineOf};
-ghost use Rattle.ms_run.specs.Turn.{IsTurn, shares_in, place_in, worker_by, AreFirst, IsNumbered};
+ghost use Rattle.ms_run.specs.Turn.{IsTurn, shares_in, position_in, worker_by, AreFirst, IsNumbered};
 ghost use Rattle.ms_run.specs.Turn.{AddsWorker, Assigns, HaveOwnShares};
 
 use ms_base::{Settings, Step};
@@ -37,8 +38,8 @@ pub struct Turn {
     // The workers with lines in this phase, in order of their first lines: a share each. Worker 0
     // alone where there are none.
     active: Vec<usize>,
-    // By worker: the place of its share.
-    places: Vec<usize>,
+    // By worker: the position of its share.
+    positions: Vec<usize>,
 }
 
 impl Model for Turn {
@@ -53,12 +54,12 @@ impl Model for Turn {
       phase = turn.phase;
       workers = turn.workers;
       active = turn.active.items;
-      places = turn.places.items;
+      positions = turn.positions.items;
     } };
 
     ghost invariant = { λ turn. (1 ≤ length turn.active.items) × (length turn.active.items ≤ 8)
         × (8 ≤ vec_capacity turn.active) × (1 ≤ turn.workers) × (turn.workers ≤ 8)
-        × (turn.phase < turn.workers) × (length turn.places.items ≡ 8) };
+        × (turn.phase < turn.workers) × (length turn.positions.items ≡ 8) };
 }
 
 impl Turn {
@@ -72,13 +73,13 @@ impl Turn {
         let first = first_workers(alloc, workers, lines)?;
         let mut active = Vec::with_capacity(alloc, MOST_WORKERS)?;
         active.push_reserved(0);
-        let places = vec![in alloc; 0; MOST_WORKERS]?;
+        let positions = vec![in alloc; 0; MOST_WORKERS]?;
         Ok(Turn {
             first,
             workers,
             phase: 0,
             active,
-            places,
+            positions,
         })
     }
 
@@ -90,14 +91,14 @@ impl Turn {
         ensures phase { self.new.phase ≡ self.old.phase }
         ensures workers { self.new.workers ≡ self.old.workers }
     {
-        self.places.fill(0);
+        self.positions.fill(0);
         find_active(
             self.first.as_slice(),
             self.phase,
             self.workers,
             lines,
             &mut self.active,
-            self.places.as_mut_slice(),
+            self.positions.as_mut_slice(),
         );
     }
 
@@ -107,7 +108,7 @@ impl Turn {
         ensures first { self.new.first ≡ self.old.first }
         ensures workers { self.new.workers ≡ self.old.workers }
         ensures active { self.new.active ≡ self.old.active }
-        ensures places { self.new.places ≡ self.old.places }
+        ensures positions { self.new.positions ≡ self.old.positions }
     {
         self.phase = (self.phase + 1) % self.workers;
     }
@@ -121,19 +122,19 @@ impl Turn {
     }
 
     /// Returns the worker of a share; 0 where there is no such share.
-    pub fn worker(&self, place: usize) -> usize
-        ensures { result ≡ slice_index_or self.now.active place 0 }
+    pub fn worker(&self, position: usize) -> usize
+        ensures { result ≡ slice_index_or self.now.active position 0 }
     {
-        entry(self.active.as_slice(), place)
+        entry(self.active.as_slice(), position)
     }
 
     /// Returns which share has the lines of a loader, or of a purge.
-    pub fn place(&self, name: Option<u16>) -> usize
-        ensures place { result ≡ place_in self.now name }
+    pub fn position(&self, name: Option<u16>) -> usize
+        ensures position { result ≡ position_in self.now name }
         ensures within { result < shares_in self.now }
     {
         let worker = worker_at(self.first.as_slice(), self.phase, self.workers, name);
-        entry(self.places.as_slice(), worker).min(self.active.len() - 1)
+        entry(self.positions.as_slice(), worker).min(self.active.len() - 1)
     }
 }
 
@@ -238,20 +239,20 @@ fn assign(first: &mut [u8], name: Option<u16>, worker: u8) -> bool
     true
 }
 
-/// Finds the workers that have lines, in order of their first lines, and by worker the place of its
-/// share.
+/// Finds the workers that have lines, in order of their first lines, and by worker the position of
+/// its share.
 fn find_active(
     first: &[u8],
     phase: usize,
     workers: usize,
     lines: &[Line],
     active: &mut Vec<usize>,
-    places: &mut [usize],
+    positions: &mut [usize],
 )
     requires phase { phase < workers }
     requires few { workers ≤ 8 }
     requires room { 8 ≤ vec_capacity active.old }
-    requires places { length places.old ≡ 8 }
+    requires positions { length positions.old ≡ 8 }
     ensures some { 1 ≤ vec_len active.new }
     ensures few { vec_len active.new ≤ 8 }
     ensures room { 8 ≤ vec_capacity active.new }
@@ -260,7 +261,7 @@ fn find_active(
       phase = phase;
       workers = workers;
       active = active.new.items;
-      places = places.new;
+      positions = positions.new;
     }) lines.now }
 {
     active.clear();
@@ -270,25 +271,25 @@ fn find_active(
         }
         if let Command::Step(step) = line.command() {
             let worker = worker_at(first, phase, workers, loader_named(&step));
-            add_active(active, places, worker);
+            add_active(active, positions, worker);
         }
     }
     if active.is_empty() {
-        add_active(active, places, 0);
+        add_active(active, positions, 0);
     }
 }
 
-/// Adds a worker with its share's place, where it isn't there yet.
-fn add_active(active: &mut Vec<usize>, places: &mut [usize], worker: usize)
+/// Adds a worker with its share's position, where it isn't there yet.
+fn add_active(active: &mut Vec<usize>, positions: &mut [usize], worker: usize)
     requires few { vec_len active.old < 8 }
     requires room { 8 ≤ vec_capacity active.old }
-    requires within { worker < length places.old }
-    ensures added { AddsWorker active.old.items places.old worker active.new.items places.new }
+    requires within { worker < length positions.old }
+    ensures added { AddsWorker active.old.items positions.old worker active.new.items positions.new }
     ensures room { 8 ≤ vec_capacity active.new }
 {
     if active.contains(&worker) {
         return;
     }
-    places[worker] = active.len();
+    positions[worker] = active.len();
     active.push_reserved(worker);
 }

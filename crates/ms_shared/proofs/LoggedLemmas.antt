@@ -75,9 +75,9 @@ module _ (made : ℕ) (first : Ledger) where
         numbered = history.numbered;
         own = each_set (FitsLog made history.log) (set views id new) other spent
             (subst (AreStrands made history.log) (sym none) tt)
-            (λ place z r differs. each_set (FitsLog made history.log) views id new
+            (λ index z r differs. each_set (FitsLog made history.log) views id new
             (subst (AreStrands made history.log) (sym is) both)
-            (λ place' z' r' differs'. history.own place' z' r') place z r);
+            (λ index' z' r' differs'. history.own index' z' r') index z r);
         once = λ n less. total_joined (count_of n) views id other view w new spent
             (let sum : strands_with n new.strands ≡ strands_with n (view.strands ++ w.strands) = ap (strands_with n) is in
             let parts = with_append n view.strands w.strands in

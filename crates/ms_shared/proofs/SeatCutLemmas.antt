@@ -146,13 +146,13 @@ join made first id other view w live view_free w_free state rule at apart at' =
       lock = total_joined has_pool state.views id other view w new nothing (omega arith) at at' ∙ rule.lock;
       free = rule.free;
       out = λ seat x taken t q. each_set (HasOnly rule.pool) views other nothing (λ y r. absurd (some_apart y r))
-          (λ place z r differs. each_set (HasOnly rule.pool) state.views id new
+          (λ index z r differs. each_set (HasOnly rule.pool) state.views id new
           (λ y q'. absurd (some_apart y (sym view_free ∙ q')))
-          (λ place' z' r' differs' y q'. rule.out place' z' y r' q') place z r) seat x t taken q;
+          (λ index' z' r' differs' y q'. rule.out index' z' y r' q') index z r) seat x t taken q;
       fits = each_set (Fits rule.pool) views other nothing
           (record { served = tt; limits = λ l. absurd (omega arith); idle = λ z. nothing_is_idle })
-          (λ place z r differs. each_set (Fits rule.pool) state.views id new new_fits
-          (λ place' z' r' differs'. rule.fits place' z' r') place z r);
+          (λ index z r differs. each_set (Fits rule.pool) state.views id new new_fits
+          (λ index' z' r' differs'. rule.fits index' z' r') index z r);
       once = λ owner. total_joined (λ (v : LockView). times owner v.knows.served) state.views id other view w new
           nothing
           (let sum = times-append owner view.knows.served w.knows.served in omega arith) at at' ∙ rule.once owner;

@@ -183,7 +183,7 @@ grow_tells before limits account start total may_enlarge (Err (CommitLimit commi
 grow_tells before limits account start total may_enlarge (Err (NoRoom level)) later same grew =
     let tells = grow_room (state_in account.space before) grew.chunk total may_enlarge level grew.after.0 in
     record {
-      place = grew.place;
+      index = grew.index;
       chunk = grew.chunk;
       found = grew.found;
       starts = grew.starts;

@@ -26,7 +26,7 @@ module _ {V : Type 0} where
       → sum_by f (set views seat new) ≡ sum_by f views
   total_kept f views seat old new same at = let total = total-set f views seat old new at in omega arith
 
-  -- What is counted at a place is counted.
+  -- What is counted at an index is counted.
   pub total_at : (f : V → ℕ) (views : List V) (seat : ℕ) (view : V) → get_elem? views seat ≡ some view
       → f view ≤ sum_by f views
   total_at f [] seat view at = absurd (some-ne-none view (sym at))
@@ -43,8 +43,8 @@ module _ {V : Type 0} where
       let all = sum_by-cons g x xs in let here = idle 0 x refl (omega arith) in
       let rest = none_else f g xs (λ seat. idle (suc seat)) (omega arith) in omega (arith, sum_by-cons f x xs)
 
-  -- Where all that g counts is in one place, and f counts nothing where g does not, f counts that
-  -- place alone.
+  -- Where all that g counts is in one index, and f counts nothing where g does not, f counts that
+  -- index alone.
   pub alone : (f g : V → ℕ) (views : List V) (seat : ℕ) (view : V)
       → ((other : ℕ) (w : V) → get_elem? views other ≡ some w → g w ≡ 0 → f w ≡ 0)
       → get_elem? views seat ≡ some view → sum_by g views ≡ g view → sum_by f views ≡ f view
@@ -60,7 +60,7 @@ module _ {V : Type 0} where
       let rest = alone f g xs seat view (λ other. idle (suc other)) at (omega arith) in
       omega (arith, sum_by-cons f x xs)
 
-  -- What is counted at two places is counted.
+  -- What is counted at two indices is counted.
   pub total_two : (f : V → ℕ) (views : List V) (seat other : ℕ) (view w : V) → (seat ≡ other → ⊥)
       → get_elem? views seat ≡ some view
       → get_elem? views other ≡ some w

@@ -8,23 +8,23 @@ use native.Mathlib.Decide.{ℕ_discrete, dec_lt}
 use Rattle.ms_shared.specs.Weaving.{Chain, without_numbers, of, AreBelow, IsStill, AreStill, Spread, events_of, said_of}
 use Rattle.ms_shared.specs.Weaving.{Works, Steps, Runs, AreOf, IsOrdered}
 
--- A step without an event, an event of which the machine sees nothing, and a step at its place.
+-- A step without an event, an event of which the machine sees nothing, and a step at its position.
 pub data Moment (P S : Type 0) : Type 0 where
   own : S → Moment P S
   still : P × P → Moment P S
-  place : S → P × P → Moment P S
+  position : S → P × P → Moment P S
 
 abbrev pub events_at : {P S : Type 0} → List (Moment P S) → List (P × P)
 events_at [] = []
 events_at (own s ∷ ms) = events_at ms
 events_at (still e ∷ ms) = e ∷ events_at ms
-events_at (place s e ∷ ms) = e ∷ events_at ms
+events_at (position s e ∷ ms) = e ∷ events_at ms
 
 abbrev pub said_at : {P S : Type 0} → List (Moment P S) → List S
 said_at [] = []
 said_at (own s ∷ ms) = s ∷ said_at ms
 said_at (still e ∷ ms) = said_at ms
-said_at (place s e ∷ ms) = s ∷ said_at ms
+said_at (position s e ∷ ms) = s ∷ said_at ms
 
 module _ {P V L S : Type 0} (seen : P → V) (step : V → L → S → V → L → Type 0) (none : L) where
   abbrev pub Moves : L → List (Moment P S) → L → Type 0
@@ -32,7 +32,7 @@ module _ {P V L S : Type 0} (seen : P → V) (step : V → L → S → V → L �
   Moves held (own s ∷ ms) after =
       (mid : L) × ((pool : V) → step pool held s pool mid) × Moves mid ms after
   Moves held (still e ∷ ms) after = IsStill seen e × Moves held ms after
-  Moves held (place s e ∷ ms) after =
+  Moves held (position s e ∷ ms) after =
       (mid : L) × step (seen e.0) held s (seen e.1) mid × Moves mid ms after
 
   -- Moments of a list of acts.
@@ -64,7 +64,7 @@ module _ {P V L S : Type 0} (seen : P → V) (step : V → L → S → V → L �
   )
   act_first s (e ∷ es) held mid acts after (inl here) rest =
       let more = stills_first es mid acts after here.1 rest in (
-        place s e ∷ more.0,
+        position s e ∷ more.0,
         (mid, here.0, more.1),
         ap (λ (l : List (P × P)). e ∷ l) more.2,
         ap (λ (l : List S). s ∷ l) more.3,
@@ -215,7 +215,7 @@ module _ {P V L S : Type 0} (seen : P → V) (step : V → L → S → V → L �
       (subst (λ (n : ℕ). t < n) (sym count) less) sees chain (subst (λ (n : ℕ). AreBelow n log) (sym count) below)
       (goes_stepped t ((t, e) ∷ log) ((t, e) ∷ log) teams after moves.0 plan ms less goes moves.2
       (sym (ap events_at is) ∙ goes.events t less) (λ k n. refl)))
-  to_event t e log rest (place s f ∷ ms) view old new teams after plan is less sees chain below goes =
+  to_event t e log rest (position s f ∷ ms) view old new teams after plan is less sees chain below goes =
       let moves = subst (λ (l : List (Moment P S)). Moves (get_or teams t none) l (get_or after t none)) is (goes.moves t less) in
       let events : f ∷ events_at ms ≡ e ∷ of t log = sym (ap events_at is) ∙ goes.events t less ∙ of_own t e log in
       let same : f ≡ e = ap (first_event f) events in
@@ -280,7 +280,7 @@ module _ {P V L S : Type 0} (seen : P → V) (step : V → L → S → V → L �
       ∙ idle k more (subst (λ (m : ℕ). k < m) count below)))
   end_one n rest (still f ∷ ms) view new teams after plan is sees goes less idle =
       absurd (empty_apart f (events_at ms) (sym (goes.events n less) ∙ ap events_at is))
-  end_one n rest (place s f ∷ ms) view new teams after plan is sees goes less idle =
+  end_one n rest (position s f ∷ ms) view new teams after plan is sees goes less idle =
       absurd (empty_apart f (events_at ms) (sym (goes.events n less) ∙ ap events_at is))
 
   abbrev with_teams : List L → V → V × List L

@@ -60,9 +60,9 @@ TakeTells limits space words _ = Unit {0}
 -- There is no room in place: the chunk that starts there is of this level, and smaller than what
 -- was asked for in all.
 pub record HasNoRoom (account : AccountState) (start total level : ℕ) : Type 0 where
-  pub place : ℕ
+  pub index : ℕ
   pub chunk : Chunk
-  pub found : slice_get account.chunks place ≡ Some chunk
+  pub found : slice_get account.chunks index ≡ Some chunk
   pub starts : chunk.start ≡ start
   pub level_is : level ≡ chunk.level
   pub past : size_of chunk.level < total

@@ -22,9 +22,9 @@ fields_of-join first (next ∷ rest) solid all =
     ∙ ap (λ fields. first ∷ fields) (fields_of-join next rest all.0 all.1)
 
 -- Where the byte isn't found, the text is one part.
-not_inside : (inside : Bool) (place : ℕ) → None ≡ cond inside (Some place) None → inside ≡ false
-not_inside true place e = cc
-not_inside false place e = refl
+not_inside : (inside : Bool) (offset : ℕ) → None ≡ cond inside (Some offset) None → inside ≡ false
+not_inside true offset e = cc
+not_inside false offset e = refl
 
 pub cut_nowhere : (p : ℕ → Bool) (text : List ℕ) → None ≡ position p text → slice_split p text ≡ text ∷ []
 cut_nowhere p text e =
@@ -32,9 +32,9 @@ cut_nowhere p text e =
     slice_split_none p text (λ k d inside. not-true _ (prefix_len_passes (λ byte. not (p byte)) text k d (omega arith)))
 
 -- Where it is found, the first part ends there.
-found_inside : (inside : Bool) (place at : ℕ) → Some at ≡ cond inside (Some place) None → (inside ≡ true) × (place ≡ at)
-found_inside true place at e = (refl, cc)
-found_inside false place at e = cc
+found_inside : (inside : Bool) (offset at : ℕ) → Some at ≡ cond inside (Some offset) None → (inside ≡ true) × (offset ≡ at)
+found_inside true offset at e = (refl, cc)
+found_inside false offset at e = cc
 
 pub cut_there : (p : ℕ → Bool) (text : List ℕ) (at : ℕ) → Some at ≡ position p text
     → slice_split p text ≡ take at text ∷ slice_split p (drop (at + 1) text)
@@ -47,7 +47,7 @@ pub not_true : (b : Bool) → (b ≡ true → ⊥) → b ≡ false
 not_true true never = absurd (never refl)
 not_true false never = refl
 
--- The first place that a search finds, in the words of `position`.
+-- The first offset that a search finds, in the words of `position`.
 pub position_from_first : (p : ℕ → Bool) (text : List ℕ) (found : Option ℕ) → IsFirstByte p text found
     → found ≡ position p text
 position_from_first p text None nowhere =
@@ -57,12 +57,12 @@ position_from_first p text None nowhere =
     in
     rw none (rw (le-ltb (length text) (length text) (omega arith)) refl)
 position_from_first p text (Some at) (first, here) =
-    let place : position_or_len p text ≡ at =
+    let offset : position_or_len p text ≡ at =
     position_or_len_is p text at 0 (omega (arith, first.high))
     (λ k below. not_true (p (get_or text k 0)) (first.before k (omega arith) below)) (λ below. here) in
-    rw place (rw (lt-ltb at (length text) first.high) refl)
+    rw offset (rw (lt-ltb at (length text) first.high) refl)
 
--- The first place in the front of a text is the first in the text.
+-- The first offset in the front of a text is the first in the text.
 pub first_in_front : (p : ℕ → Bool) (text : List ℕ) (n at : ℕ) → IsFirstByte p (take n text) (Some at)
     → IsFirstByte p text (Some at)
 first_in_front p text n at (first, here) =

@@ -110,5 +110,5 @@ pub is_ended-last : (text : List ℕ) → 0 < length text → is_ended text ≡ 
 is_ended-last [] some = absurd (omega arith)
 is_ended-last (byte ∷ []) some = refl
 is_ended-last (byte ∷ next ∷ rest) some =
-    let place : length (byte ∷ next ∷ rest) - 1 ≡ suc (length (next ∷ rest) - 1) = omega arith in
-    rw place (is_ended-last (next ∷ rest) (omega arith))
+    let last_is : length (byte ∷ next ∷ rest) - 1 ≡ suc (length (next ∷ rest) - 1) = omega arith in
+    rw last_is (is_ended-last (next ∷ rest) (omega arith))

@@ -84,14 +84,14 @@ silent_front (first ∷ rest) (suc at) some mark = rw mark refl
 pub comment_first : (text : List ℕ) (n at : ℕ) → n ≤ 81 → get_or text 0 0 ≡ 35
     → IsFirstByte (λ byte. eqb byte 10) (take n text) (Some at) → BeginsSilently text (drop (at + 1) text)
 comment_first text n at near mark found =
-    let place : at < n = omega (arith, length-take n text, found.0.high) in
+    let earlier : at < n = omega (arith, length-take n text, found.0.high) in
     let whole = first_in_front (λ byte. eqb byte 10) text n at found in
     let inside : at < length text = whole.0.high in
     record {
       line = take at text;
       cut = first_line_of text at (position_from_first (λ byte. eqb byte 10) text (Some at) whole);
       silent = silent_front text at (omega (arith, inside)) mark;
-      short = omega (arith, length-take at text, place);
+      short = omega (arith, length-take at text, earlier);
       shorter = omega (arith, length-drop (at + 1) text, inside);
     }
 

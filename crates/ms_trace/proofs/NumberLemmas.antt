@@ -18,7 +18,7 @@ pub sum_more : (bytes : List ℕ) (i value digit : ℕ) → i < length bytes →
     → (value * 10 % 2 ^ 64 + digit) % 2 ^ 64 ≡ digits_value 10 (take (i + 1) bytes) % 2 ^ 64
 sum_more bytes i value digit inside is_digit sum e = omega (arith, value_more bytes i inside is_digit, sum, e)
 
--- What was passed from a place on are digits, with that sum.
+-- What was passed from a at_is on are digits, with that sum.
 pub record HasPassed (text : List ℕ) (from at value : ℕ) : Type 0 where
   pub after : from ≤ at
   pub digits : all_ascii_digits (take (at - from) (drop from text)) ≡ true
@@ -34,10 +34,10 @@ pub passed_more : (text : List ℕ) (from at value digit : ℕ) → HasPassed te
     → HasPassed text from (at + 1) ((value * 10 % 2 ^ 64 + digit) % 2 ^ 64)
 passed_more text from at value digit passed inside is_digit e =
     let back : List ℕ = drop from text in
-    let place : from + (at - from) ≡ at = omega (arith, passed.after) in
+    let at_is : from + (at - from) ≡ at = omega (arith, passed.after) in
     let more : at + 1 - from ≡ at - from + 1 = omega (arith, passed.after) in
     let here : get_or back (at - from) 0 ≡ get_or text at 0 =
-    get_or-drop from text (at - from) 0 ∙ ap (λ k. get_or text k 0) place in
+    get_or-drop from text (at - from) 0 ∙ ap (λ k. get_or text k 0) at_is in
     let within : at - from < length back = omega (arith, length-drop from text, passed.after, inside) in
     let is_here : is_ascii_digit (get_or back (at - from) 0) ≡ true = rw here is_digit in
     record {
@@ -50,9 +50,9 @@ passed_more text from at value digit passed inside is_digit e =
 pub number_cut : (text : List ℕ) (from at value byte : ℕ) → from ≤ at → at < length text → get_or text at 0 ≡ byte
     → decimal value ≡ take (at - from) (drop from text) → drop from text ≡ decimal value ++ byte ∷ drop (at + 1) text
 number_cut text from at value byte after inside here e =
-    let place : from + (at - from) ≡ at = omega (arith, after) in
+    let at_is : from + (at - from) ≡ at = omega (arith, after) in
     let rest : drop (at - from) (drop from text) ≡ byte ∷ drop (at + 1) text =
-    drop-drop (at - from) from text ∙ ap (λ k. drop k text) place ∙ drop_more text at 0 inside
+    drop-drop (at - from) from text ∙ ap (λ k. drop k text) at_is ∙ drop_more text at 0 inside
     ∙ ap (λ first. first ∷ drop (at + 1) text) here in
     sym (take-append-drop (at - from) (drop from text)) ∙ ap (λ front. front ++ drop (at - from) (drop from text)) (sym e)
     ∙ ap (λ back. decimal value ++ back) rest

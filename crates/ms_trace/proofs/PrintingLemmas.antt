@@ -97,9 +97,9 @@ gap_reads : (most : ℕ) (gap number : ℕ) (text : List ℕ) (trace : List Line
     → ReadsFrom most (number + gap) (lines_of text) trace → ReadsFrom most number (lines_of (replicate gap 10 ++ text)) trace
 gap_reads most zero number text trace few reads = rw add-zero at reads
 gap_reads most (suc gap) number text trace few reads =
-    let place : number + suc gap ≡ number + 1 + gap = omega arith in
+    let line_is : number + suc gap ≡ number + 1 + gap = omega arith in
     let later : ReadsFrom most (number + 1) (lines_of (replicate gap 10 ++ text)) trace =
-    gap_reads most gap (number + 1) text trace (omega arith) (rw place at reads) in
+    gap_reads most gap (number + 1) text trace (omega arith) (rw line_is at reads) in
     rw (lines_of-line [] (replicate gap 10 ++ text) refl) (trace, omega arith, omega arith, inl (refl, refl), later)
 
 -- A printed trace reads as itself.
@@ -112,7 +112,7 @@ printed_reads most last (line ∷ trace) (valid, others) rises =
     let bounds : (ltb last line.number ≡ true) × (leb line.number most ≡ true) = and_parts _ _ parts.0 in
     let low : last < line.number = ltb-true _ _ bounds.0 in
     let high : line.number ≤ most = leb-true _ _ bounds.1 in
-    let place : last + 1 + (line.number - (last + 1)) ≡ line.number = omega arith in
+    let line_is : last + 1 + (line.number - (last + 1)) ≡ line.number = omega arith in
     let later : ReadsFrom most (line.number + 1) (lines_of (text_from (line.number + 1) trace)) trace =
     printed_reads most line.number trace others parts.1 in
     let text : List ℕ = text_from (line.number + 1) trace in
@@ -126,7 +126,7 @@ printed_reads most last (line ∷ trace) (valid, others) rises =
     ) in
     let gap : ℕ = line.number - (last + 1) in
     rw (append_assoc (replicate gap 10) (spelling_of line.command) (10 ∷ text))
-    (gap_reads most gap (last + 1) (spelling_of line.command ++ 10 ∷ text) (line ∷ trace) (rw place high) (rw place here))
+    (gap_reads most gap (last + 1) (spelling_of line.command ++ 10 ∷ text) (line ∷ trace) (rw line_is high) (rw line_is here))
 
 -- The lines left begin with the next one.
 drop_here : (items : List Line) (i : ℕ) (d : Line) → i < length items

@@ -71,12 +71,12 @@ reads_push : (most : ℕ) (number : ℕ) (before : List (List ℕ)) (line : List
     → ReadsFrom most number (before ++ line ∷ []) (trace ++ said)
 reads_push most number [] line trace said e last = rw e (rw add-zero at last)
 reads_push most number (first ∷ before) line trace said (rest, few, short, says, more) last =
-    let place : number + suc (length before) ≡ number + 1 + length before = omega arith in (
+    let line_is : number + suc (length before) ≡ number + 1 + length before = omega arith in (
       rest ++ said,
       few,
       short,
       says_more number first trace rest said says,
-      reads_push most (number + 1) before line rest said more (rw place at last),
+      reads_push most (number + 1) before line rest said more (rw line_is at last),
     )
 
 -- Which lines of a text are left after so many, which read as that trace.
@@ -92,14 +92,14 @@ pub line_more : (most : ℕ) (text line : List ℕ) (left later : List (List ℕ
     → IsRead most text later (number + 1) new
 line_more most text line left later number trace new read cut keeps =
     let allowed : IsAllowed most (number + 1) line = allowed_from_no_fault most (number + 1) line keeps.faultless in
-    let place : 1 + length read.before ≡ number + 1 = omega (arith, read.number_is) in
+    let line_is : 1 + length read.before ≡ number + 1 = omega (arith, read.number_is) in
     let last : ReadsFrom most (number + 1) (line ∷ []) keeps.said = ([], allowed.few, allowed.short, keeps.says, refl) in
     record {
       before = read.before ++ line ∷ [];
       lines_are = read.lines_are ∙ ap (λ lines. read.before ++ lines) cut
           ∙ sym (append_assoc read.before (line ∷ []) later);
       number_is = simp length-append (omega (arith, read.number_is));
-      reads = rw keeps.new_is (reads_push most 1 read.before line trace keeps.said read.reads (rw place last));
+      reads = rw keeps.new_is (reads_push most 1 read.before line trace keeps.said read.reads (rw line_is last));
     }
 
 -- A line that is kept is allowed, so its number is.

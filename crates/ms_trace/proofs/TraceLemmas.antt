@@ -86,7 +86,7 @@ found_here most number line lines kind e =
 found_later : (most : ℕ) (number : ℕ) (line : List ℕ) (lines : List (List ℕ)) → fault_of most number line ≡ None
     → HasFirst most (number + 1) lines → HasFirst most number (line ∷ lines)
 found_later most number line lines none first =
-    let place : number + suc (length first.before) ≡ number + 1 + length first.before = omega arith in
+    let line_is : number + suc (length first.before) ≡ number + 1 + length first.before = omega arith in
     record {
       before = line ∷ first.before;
       line = first.line;
@@ -94,7 +94,7 @@ found_later most number line lines none first =
       kind = first.kind;
       lines_are = ap (λ later. line ∷ later) first.lines_are;
       faultless = (none, first.faultless);
-      kind_is = rw place first.kind_is;
+      kind_is = rw line_is first.kind_is;
     }
 
 pub faultless_or_first : (most : ℕ) (number : ℕ) (lines : List (List ℕ)) → AreFaultless most number lines ⊎ HasFirst most number lines
@@ -111,8 +111,8 @@ pub no_fault_among : (most : ℕ) (number : ℕ) (before : List (List ℕ)) (lin
     AreFaultless most number (before ++ line ∷ after) → fault_of most (number + length before) line ≡ None
 no_fault_among most number [] line after (here, later) = rw add-zero here
 no_fault_among most number (first ∷ before) line after (here, later) =
-    let place : number + suc (length before) ≡ number + 1 + length before = omega arith in
-    rw place (no_fault_among most (number + 1) before line after later)
+    let line_is : number + suc (length before) ≡ number + 1 + length before = omega arith in
+    rw line_is (no_fault_among most (number + 1) before line after later)
 
 -- A silent line spells no command.
 not_both : (line : List ℕ) (command : Command) → IsTrue (is_silent line) → line ≡ spelling_of command → ⊥
@@ -176,24 +176,24 @@ pub one_fault : (most : ℕ) (number at other_at : ℕ) (before other_before : L
     at ≡ number + length before → other_at ≡ number + length other_before →
     fault_of most at line ≡ Some kind → fault_of most other_at other_line ≡ Some other_kind
     → IsSameFault at other_at kind other_kind
-one_fault most number at other_at [] [] line other_line after other_after kind other_kind e f g place other_place k l =
+one_fault most number at other_at [] [] line other_line after other_after kind other_kind e f g line_is other_is k l =
     let same_at : at ≡ other_at = omega arith in
     let same_line : line ≡ other_line = cc in
     record {
       number_is = same_at;
       kind_is = same_kind (fault_of most at line) kind other_kind k (rw same_at (rw same_line l));
     }
-one_fault most number at other_at [] (first ∷ rest) line other_line after other_after kind other_kind e f g place other_place
+one_fault most number at other_at [] (first ∷ rest) line other_line after other_after kind other_kind e f g line_is other_is
     k l =
     let same_at : at ≡ number = omega arith in
     let same_line : line ≡ first = cc in
     absurd (clash (fault_of most at line) kind (rw same_at (rw same_line g.0)) k)
-one_fault most number at other_at (first ∷ rest) [] line other_line after other_after kind other_kind e f g place other_place
+one_fault most number at other_at (first ∷ rest) [] line other_line after other_after kind other_kind e f g line_is other_is
     k l =
     let same_at : other_at ≡ number = omega arith in
     let same_line : other_line ≡ first = cc in
     absurd (clash (fault_of most other_at other_line) other_kind (rw same_at (rw same_line f.0)) l)
 one_fault most number at other_at (first ∷ rest) (other_first ∷ other_rest) line other_line after other_after kind other_kind
-    e f g place other_place k l =
+    e f g line_is other_is k l =
     one_fault most (number + 1) at other_at rest other_rest line other_line after other_after kind other_kind (cc) f.1 g.1
     (omega arith) (omega arith) k l

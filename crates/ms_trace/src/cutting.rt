@@ -67,13 +67,13 @@ pub(crate) fn cut_field(text: &[u8]) -> (&[u8], Option<&[u8]>)
     cut_at(text, b' ', first_space(text))
 }
 
-/// Cuts a text at its first separator, which is at that place.
-fn cut_at(text: &[u8], separator: u8, place: Option<usize>) -> (&[u8], Option<&[u8]>)
-    requires { place ≡ position (λ byte. byte == separator) text.now }
+/// Cuts a text at its first separator, which is at that offset.
+fn cut_at(text: &[u8], separator: u8, offset: Option<usize>) -> (&[u8], Option<&[u8]>)
+    requires { offset ≡ position (λ byte. byte == separator) text.now }
     ensures parts { parts_of separator text.now ≡ result.0.now ∷ parts_after separator result.1 }
     ensures shorter { IfSome result.1 (λ rest. length rest.now < length text.now) }
 {
-    match place {
+    match offset {
         None => (text, None),
         Some(at) => (&text[..at], Some(&text[at + 1..])),
     }

@@ -1,6 +1,6 @@
-//! Reading the number that stands at a place of a text, in one pass up to the byte after it.
+//! Reading the number that stands at an offset of a text, in one pass up to the byte after it.
 //!
-//!     alloc 37 500 ..     from place 6 up to a space: 37, and place 9
+//!     alloc 37 500 ..     from offset 6 up to a space: 37, and offset 9
 //!
 //! The text ends with a newline, which is no digit, so digits are read without asking where
 //! the text ends. They are added up modulo 2^64, and what they are is tested once, where they end.
@@ -14,8 +14,8 @@ ghost use Rattle.ms_trace.specs.Keeping.{is_ended};
 /// The least number of twenty digits.
 const TWENTY_DIGITS: u64 = 10_000_000_000_000_000_000;
 
-/// Reads the number at a place, where that byte ends it and it isn't too great, and answers the
-/// place after that byte.
+/// Reads the number at an offset, where that byte ends it and it isn't too great, and answers the
+/// offset after that byte.
 #[inline(always)]
 pub(crate) fn number_at(end: u8, text: &[u8], from: usize, greatest: u64) -> Option<(u64, usize)>
     requires ended { IsTrue (is_ended text.now) }
@@ -38,7 +38,7 @@ pub(crate) fn number_at(end: u8, text: &[u8], from: usize, greatest: u64) -> Opt
     Some((value, at + 1))
 }
 
-/// Returns the digit at a place, and more than 9 where that byte is none.
+/// Returns the digit at an offset, and more than 9 where that byte is none.
 #[inline(always)]
 fn digit_at(text: &[u8], at: usize) -> u64
     requires { at < length text.now }

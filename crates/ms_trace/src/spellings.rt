@@ -228,7 +228,7 @@ fn loader_after(word: &[u8], end: u8, text: &[u8]) -> Option<(u16, usize)>
     Some((loader as u16, at))
 }
 
-/// Reads the block's name at a place up to that byte.
+/// Reads the block's name at an offset up to that byte.
 #[inline(always)]
 fn block_at(end: u8, text: &[u8], from: usize) -> Option<(u32, usize)>
     requires ended { IsTrue (is_ended text.now) }

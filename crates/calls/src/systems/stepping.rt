@@ -96,7 +96,7 @@ fn tell_loader(rt: &HostRuntime, loader: &Loader) {
     let (sums, _) = loader.totals();
     tell(rt, &(loader.kind(), sums));
     let (account, _) = loader.accounts();
-    for place in 0..account.held() {
-        tell(rt, &account.chunk(place));
+    for index in 0..account.held() {
+        tell(rt, &account.chunk(index));
     }
 }

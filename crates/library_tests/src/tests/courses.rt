@@ -143,15 +143,15 @@ fn a_course_gathers_four_lines(rt: HostRuntime) {
 /// The most committed words of the first four columns.
 fn committed_in(columns: &Columns) -> [u64; 4] {
     let mut words = [0; 4];
-    for (place, column) in words.iter_mut().zip(columns.columns()) {
-        *place = column.most.both.committed;
+    for (kept, column) in words.iter_mut().zip(columns.columns()) {
+        *kept = column.most.both.committed;
     }
     words
 }
 
 #[test]
 fn lines_past_512_share_columns(rt: HostRuntime) {
-    let places = [
+    let indices = [
         column_for(0, 1024),
         column_for(1, 1024),
         column_for(2, 1024),
@@ -165,7 +165,7 @@ fn lines_past_512_share_columns(rt: HostRuntime) {
     let shared = columns.columns().first().copied();
     let count = columns.columns().len();
     drop(columns);
-    same(&rt, &places, &[0, 0, 1, 511, 511]);
+    same(&rt, &indices, &[0, 0, 1, 511, 511]);
     same(&rt, &count, &512);
     let shared = shared.expect(&rt, "no column");
     let told = [

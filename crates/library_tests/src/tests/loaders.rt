@@ -9,7 +9,7 @@ use super::reports::ONE_BLOCK;
 use super::same;
 use ms_base::{Block, Kind, Policy, Refusal, Reply, Settings, Space, Step};
 use ms_loaders::{ArenaTotals, Details, Loader, LoaderDetails, Loaders, System, Totals, serve};
-use ms_pool::{Place, Pool, RootMap};
+use ms_pool::{Cell, Pool, RootMap};
 use ms_report::{text, totals};
 use std::alloc::{AllocError, Global};
 use std::process::Abort;
@@ -146,15 +146,15 @@ fn with_block(chunks: u32, capacity: u64, words: u64) -> ArenaTotals {
     }
 }
 
-/// A node of two roots is reserved; the block has 10 words of a chunk of 512 in the first place.
+/// A node of two roots is reserved; the block has 10 words of a chunk of 512 in the first cell.
 #[test]
 fn a_run_is_mapped_and_told_in_detail(rt: HostRuntime) {
     let (maps, details) = mapped(&rt, &STEPS);
-    let mut places = [Place::Free; 64];
-    places[0] = Place::LentPartly;
-    let first = RootMap { root: 0, places };
-    let (root, places) = (1, [Place::Free; 64]);
-    let roots = [first, RootMap { root, places }];
+    let mut cells = [Cell::Free; 64];
+    cells[0] = Cell::LentPartly;
+    let first = RootMap { root: 0, cells };
+    let (root, cells) = (1, [Cell::Free; 64]);
+    let roots = [first, RootMap { root, cells }];
     same(
         &rt,
         &(maps.as_slice(), details.roots.as_slice()),

@@ -114,8 +114,8 @@ fn times_lent(held: &[Holder]) -> ([u8; 512], u32) {
     let mut times: [u8; 512] = [0; 512];
     let mut others: u32 = 0;
     for holder in held {
-        for place in 0..holder.account.held() {
-            let chunk = holder.account.chunk(place);
+        for index in 0..holder.account.held() {
+            let chunk = holder.account.chunk(index);
             let part = (chunk.start / 128) as usize;
             if chunk.level.number() == 12 && part < 512 {
                 times[part] = times[part].saturating_add(1);

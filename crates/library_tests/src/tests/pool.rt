@@ -8,7 +8,7 @@ ghost use Rattle.ms_pool.specs.Ledger.{Serves};
 
 use super::{limited, same};
 use ms_base::{Level, Policy, Refusal, Settings, Space, Span};
-use ms_pool::{Account, ChunkSource, Place, Pool, PoolTotals, RootMap};
+use ms_pool::{Account, Cell, ChunkSource, Pool, PoolTotals, RootMap};
 use std::alloc::{AllocError, Global};
 use std::process::Abort;
 
@@ -17,7 +17,7 @@ use std::process::Abort;
 enum Call {
     /// Wanted level, most that serves, words.
     Take(u8, u8, u64),
-    /// The place of a chunk in the account, words in all, whether it may be enlarged.
+    /// The index of a chunk in the account, words in all, whether it may be enlarged.
     Grow(u32, u64, bool),
 }
 
@@ -54,8 +54,8 @@ fn ask(rt: &impl Abort, pool: &mut Pool, account: &mut Account, call: Call) -> A
 {
     match call {
         Call::Take(wanted, most, words) => take(rt, pool, account, wanted, most, words),
-        Call::Grow(place, total, may_enlarge) => {
-            grow(rt, pool, account, place, total, may_enlarge)
+        Call::Grow(index, total, may_enlarge) => {
+            grow(rt, pool, account, index, total, may_enlarge)
         }
     }
 }
@@ -84,7 +84,7 @@ fn grow(
     rt: &impl Abort,
     pool: &mut Pool,
     account: &mut Account,
-    place: u32,
+    index: u32,
     total: u64,
     may_enlarge: bool,
 ) -> Answer
@@ -93,26 +93,26 @@ fn grow(
     ensures others { (other : AccountState) → other.owner ≢ account.old.owner
         → Serves pool.old other → Serves pool.new other }
 {
-    assert!(rt; place < account.held());
-    let start = start_at(account, place);
+    assert!(rt; index < account.held());
+    let start = start_at(account, index);
     let answer = ChunkSource::grow(pool, account, start, total, may_enlarge);
     told(rt, account, answer)
 }
 
-/// Returns where the chunk at a place of the account starts.
-fn start_at(account: &Account, place: u32) -> u64
-    requires { place < length account.now.chunks }
+/// Returns where the chunk at an index of the account starts.
+fn start_at(account: &Account, index: u32) -> u64
+    requires { index < length account.now.chunks }
     ensures { IsTrue (has_chunk_at account.now.chunks result) }
 {
-    let chunk = account.chunk(place);
+    let chunk = account.chunk(index);
     chunk.start
 }
 
 /// Returns the account's own chunk of the span that was answered.
 fn told(rt: &impl Abort, account: &Account, answer: Result<Span, Refusal>) -> Answer {
     let span = answer?;
-    for place in 0..account.held() {
-        let chunk = account.chunk(place);
+    for index in 0..account.held() {
+        let chunk = account.chunk(index);
         if chunk.start == span.start && chunk.level == span.level {
             return Ok((chunk.start, chunk.level.number(), chunk.front));
         }
@@ -343,20 +343,20 @@ fn mapped(alloc: Global) -> Result<Vec<RootMap>, AllocError> {
     pool.maps(alloc)
 }
 
-/// The first chunk is place 0, the second places 2 and 3, the third 512 words of place 1.
+/// The first chunk is cell 0, the second cells 2 and 3, the third 512 words of cell 1.
 #[test]
 fn a_map_tells_what_is_lent_and_committed(rt: HostRuntime) {
     let maps = mapped(rt.alloc()).expect(&rt, "memory is ample");
-    let mut places = [Place::Free; 64];
-    places[0] = Place::LentWholly;
-    places[1] = Place::LentPartly;
-    places[2] = Place::LentWholly;
-    places[3] = Place::LentUncommitted;
-    let first = RootMap { root: 0, places };
-    let (root, places) = (1, [Place::Free; 64]);
+    let mut cells = [Cell::Free; 64];
+    cells[0] = Cell::LentWholly;
+    cells[1] = Cell::LentPartly;
+    cells[2] = Cell::LentWholly;
+    cells[3] = Cell::LentUncommitted;
+    let first = RootMap { root: 0, cells };
+    let (root, cells) = (1, [Cell::Free; 64]);
     same(
         &rt,
         &maps.as_slice(),
-        &[first, RootMap { root, places }].as_slice(),
+        &[first, RootMap { root, cells }].as_slice(),
     );
 }

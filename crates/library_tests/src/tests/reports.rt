@@ -7,7 +7,7 @@ use ms_base::{Kind, Policy, Refusal, Reply, Settings};
 use ms_loaders::{
     Answer, ArenaTotals, Details, LoaderDetails, LoaderRow, Replies, SpaceTotals, Totals,
 };
-use ms_pool::{Place, RootMap};
+use ms_pool::{Cell, RootMap};
 use ms_report::{full_text, lines, map_text, tally};
 use std::alloc::{AllocError, Global};
 use std::process::Abort;
@@ -352,13 +352,13 @@ const MAP: &str = "Map
 ";
 
 #[test]
-fn each_place_has_its_letter(rt: HostRuntime) {
-    let mut places = [Place::Free; 64];
-    places[0] = Place::LentWholly;
-    places[1] = Place::LentPartly;
-    places[2] = Place::LentUncommitted;
-    places[63] = Place::FreeCommitted;
-    let maps = [RootMap { root: 129, places }];
+fn each_cell_has_its_letter(rt: HostRuntime) {
+    let mut cells = [Cell::Free; 64];
+    cells[0] = Cell::LentWholly;
+    cells[1] = Cell::LentPartly;
+    cells[2] = Cell::LentUncommitted;
+    cells[63] = Cell::FreeCommitted;
+    let maps = [RootMap { root: 129, cells }];
     let told = map_text(rt.alloc(), &maps).expect(&rt, "memory is ample");
     same(&rt, &told.as_str(), &MAP);
 }

@@ -53,8 +53,8 @@ fn span(start: u64, level: u8) -> Span
 fn free_leaves<A: Allocator, T: RootChunkArea<A>>(tree: &T) -> ([Option<Span>; 10], bool) {
     let mut leaves = tree.free_leaves().into_iter();
     let mut free = [None; 10];
-    for place in 0..10 {
-        free[place] = leaves.next();
+    for index in 0..10 {
+        free[index] = leaves.next();
     }
     (free, leaves.next().is_some())
 }
@@ -224,7 +224,7 @@ fn called_again(heap: &LocalHeap) -> ([u32; 2], usize, Result<(), Refusal>, usiz
     (counts, kept, again, heap.used())
 }
 
-/// The table of places, 4095 of 8 bytes, stays for the next carve; the heap's pieces are of 16.
+/// The table of entries, 4095 of 8 bytes, stays for the next carve; the heap's pieces are of 16.
 #[test]
 fn the_table_serves_the_next_carve(rt: HostRuntime) {
     let heap = LocalHeap::new(rt.alloc(), 1048576).expect(&rt, "memory is ample");
@@ -329,10 +329,10 @@ impl Twins {
         others.next().is_none() && self.tree.is_whole() == self.table.is_whole()
     }
 
-    /// Whether both have the same leaf at each place of the smallest size.
+    /// Whether both have the same leaf at each index of the smallest size.
     fn are_alike(&self) -> bool {
-        for place in 0..4096 {
-            if self.tree.leaf_at(128 * place) != self.table.leaf_at(128 * place) {
+        for index in 0..4096 {
+            if self.tree.leaf_at(128 * index) != self.table.leaf_at(128 * index) {
                 return false;
             }
         }

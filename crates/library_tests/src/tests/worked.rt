@@ -67,8 +67,8 @@ fn push_steps(
 
 /// Adds the chunks of an account, in the order in which it took them.
 fn push_chunks(alloc: Global, text: &mut String, account: &Account) -> Result<(), AllocError> {
-    for place in 0..account.held() {
-        let chunk = account.chunk(place);
+    for index in 0..account.held() {
+        let chunk = account.chunk(index);
         let (start, level, front) = (chunk.start, chunk.level.number(), chunk.front);
         let told = format!(in alloc; "  at {start} of level {level}, front {front}\n")?;
         text.push_str(told.as_str())?;

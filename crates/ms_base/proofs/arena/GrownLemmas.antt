@@ -30,21 +30,21 @@ use Rattle.ms_base.proofs.machine.GoodLemmas.{chunks_split}
 use Rattle.ms_base.proofs.machine.ChangeLemmas.{changed, good_with_change, slots_same}
 use Rattle.ms_base.proofs.machine.BlocksApartLemmas.{middle_is_clear}
 
--- The chunks before and after a place.
-pub record Parted (chunks : List Chunk) (place : ℕ) (was is : Chunk) : Type 0 where
+-- The chunks before and after an index.
+pub record Parted (chunks : List Chunk) (index : ℕ) (was is : Chunk) : Type 0 where
   pub before : List Chunk
   pub after : List Chunk
   pub old : chunks ≡ before ++ was ∷ after
-  pub new : slice_set chunks place is ≡ before ++ is ∷ after
+  pub new : slice_set chunks index is ≡ before ++ is ∷ after
 
-pub parted_at : (chunks : List Chunk) (place : ℕ) (was is : Chunk) → slice_get chunks place ≡ Some was
-    → Parted chunks place was is
-parted_at [] place was is found = absurd (cc)
+pub parted_at : (chunks : List Chunk) (index : ℕ) (was is : Chunk) → slice_get chunks index ≡ Some was
+    → Parted chunks index was is
+parted_at [] index was is found = absurd (cc)
 parted_at (c ∷ chunks) zero was is found =
     let its : c ≡ was =
     cc in record { before = []; after = chunks; old = ap (λ (d : Chunk). d ∷ chunks) its; new = refl }
-parted_at (c ∷ chunks) (suc place) was is found =
-    let rest = parted_at chunks place was is found in
+parted_at (c ∷ chunks) (suc index) was is found =
+    let rest = parted_at chunks index was is found in
     record {
       before = c ∷ rest.before;
       after = rest.after;
@@ -53,60 +53,60 @@ parted_at (c ∷ chunks) (suc place) was is found =
     }
 
 -- An arena's blocks lie where they did.
-same_use : (run : ℕ × ℕ) (chunks : List Chunk) (tops : List ℕ) (place : ℕ) (was is : Chunk)
-    → slice_get chunks place ≡ Some was → is.start ≡ was.start
-    → list_any (λ (used : Chunk × ℕ). lies_in run (used.0.start, used.1)) (zip (slice_set chunks place is) tops)
+same_use : (run : ℕ × ℕ) (chunks : List Chunk) (tops : List ℕ) (index : ℕ) (was is : Chunk)
+    → slice_get chunks index ≡ Some was → is.start ≡ was.start
+    → list_any (λ (used : Chunk × ℕ). lies_in run (used.0.start, used.1)) (zip (slice_set chunks index is) tops)
     ≡ list_any (λ (used : Chunk × ℕ). lies_in run (used.0.start, used.1)) (zip chunks tops)
-same_use run [] tops place was is found same = absurd (cc)
+same_use run [] tops index was is found same = absurd (cc)
 same_use run (c ∷ chunks) [] zero was is found same = refl
-same_use run (c ∷ chunks) [] (suc place) was is found same = refl
+same_use run (c ∷ chunks) [] (suc index) was is found same = refl
 same_use run (c ∷ chunks) (t ∷ tops) zero was is found same =
     let its : is.start ≡ c.start = cc in
     ap (λ (s : ℕ). lies_in run (s, t) || list_any (λ (used : Chunk × ℕ). lies_in run (used.0.start, used.1))
     (zip chunks tops)) its
-same_use run (c ∷ chunks) (t ∷ tops) (suc place) was is found same =
-    ap (λ (b : Bool). lies_in run (c.start, t) || b) (same_use run chunks tops place was is found same)
+same_use run (c ∷ chunks) (t ∷ tops) (suc index) was is found same =
+    ap (λ (b : Bool). lies_in run (c.start, t) || b) (same_use run chunks tops index was is found same)
 
-all_same_use : (arena : ArenaState) (place : ℕ) (was is : Chunk) (runs : List (ℕ × ℕ))
-    → slice_get arena.chunks place ≡ Some was → is.start ≡ was.start
-    → list_all (is_in_use (record arena { chunks = slice_set arena.chunks place is })) runs
+all_same_use : (arena : ArenaState) (index : ℕ) (was is : Chunk) (runs : List (ℕ × ℕ))
+    → slice_get arena.chunks index ≡ Some was → is.start ≡ was.start
+    → list_all (is_in_use (record arena { chunks = slice_set arena.chunks index is })) runs
     ≡ list_all (is_in_use arena) runs
-all_same_use arena place was is [] found same = refl
-all_same_use arena place was is (run ∷ runs) found same =
-    ap (λ (b : Bool). b && list_all (is_in_use (record arena { chunks = slice_set arena.chunks place is })) runs)
-    (same_use run arena.chunks arena.tops place was is found same)
-    ∙ ap (λ (b : Bool). is_in_use arena run && b) (all_same_use arena place was is runs found same)
+all_same_use arena index was is [] found same = refl
+all_same_use arena index was is (run ∷ runs) found same =
+    ap (λ (b : Bool). b && list_all (is_in_use (record arena { chunks = slice_set arena.chunks index is })) runs)
+    (same_use run arena.chunks arena.tops index was is found same)
+    ∙ ap (λ (b : Bool). is_in_use arena run && b) (all_same_use arena index was is runs found same)
 
-tops_still_within : (chunks : List Chunk) (tops : List ℕ) (place : ℕ) (was is : Chunk)
-    → slice_get chunks place ≡ Some was → was.front ≤ is.front
+tops_still_within : (chunks : List Chunk) (tops : List ℕ) (index : ℕ) (was is : Chunk)
+    → slice_get chunks index ≡ Some was → was.front ≤ is.front
     → list_all (λ (used : Chunk × ℕ). nat_le used.1 used.0.front) (zip chunks tops) ≡ true
-    → list_all (λ (used : Chunk × ℕ). nat_le used.1 used.0.front) (zip (slice_set chunks place is) tops) ≡ true
-tops_still_within [] tops place was is found higher h = absurd (cc)
+    → list_all (λ (used : Chunk × ℕ). nat_le used.1 used.0.front) (zip (slice_set chunks index is) tops) ≡ true
+tops_still_within [] tops index was is found higher h = absurd (cc)
 tops_still_within (c ∷ chunks) [] zero was is found higher h = refl
-tops_still_within (c ∷ chunks) [] (suc place) was is found higher h = refl
+tops_still_within (c ∷ chunks) [] (suc index) was is found higher h = refl
 tops_still_within (c ∷ chunks) (t ∷ tops) zero was is found higher h =
     let its : c ≡ was = cc in
     let rest = list_all (λ (used : Chunk × ℕ). nat_le used.1 used.0.front) (zip chunks tops) in
     let both = and_parts (nat_le t c.front) rest h in
     and_from (nat_le t is.front) rest
     (le-leb t is.front (omega (arith, leb-true t c.front both.0, ap (λ (d : Chunk). d.front) its, higher))) both.1
-tops_still_within (c ∷ chunks) (t ∷ tops) (suc place) was is found higher h =
+tops_still_within (c ∷ chunks) (t ∷ tops) (suc index) was is found higher h =
     let both =
     and_parts (nat_le t c.front) (list_all (λ (used : Chunk × ℕ). nat_le used.1 used.0.front) (zip chunks tops)) h
     in
     and_from (nat_le t c.front)
-    (list_all (λ (used : Chunk × ℕ). nat_le used.1 used.0.front) (zip (slice_set chunks place is) tops)) both.0
-    (tops_still_within chunks tops place was is found higher both.1)
+    (list_all (λ (used : Chunk × ℕ). nat_le used.1 used.0.front) (zip (slice_set chunks index is) tops)) both.0
+    (tops_still_within chunks tops index was is found higher both.1)
 
-pub grown_is_sound : (arena : ArenaState) (live : List (ℕ × ℕ)) (place : ℕ) (was is : Chunk)
-    → slice_get arena.chunks place ≡ Some was → is.start ≡ was.start → was.front ≤ is.front → IsSound arena live
-    → IsSound (record arena { chunks = slice_set arena.chunks place is }) live
-grown_is_sound arena live place was is found same higher sound = record {
+pub grown_is_sound : (arena : ArenaState) (live : List (ℕ × ℕ)) (index : ℕ) (was is : Chunk)
+    → slice_get arena.chunks index ≡ Some was → is.start ≡ was.start → was.front ≤ is.front → IsSound arena live
+    → IsSound (record arena { chunks = slice_set arena.chunks index is }) live
+grown_is_sound arena live index was is found same higher sound = record {
   apart = sound.apart;
   long = sound.long;
-  inside = all_same_use arena place was is (live ++ arena.kept) found same ∙ sound.inside;
-  few = omega (arith, sound.few, length-set arena.chunks place is);
-  tops = tops_still_within arena.chunks arena.tops place was is found higher sound.tops;
+  inside = all_same_use arena index was is (live ++ arena.kept) found same ∙ sound.inside;
+  few = omega (arith, sound.few, length-set arena.chunks index is);
+  tops = tops_still_within arena.chunks arena.tops index was is found higher sound.tops;
   kept = sound.kept;
 }
 
@@ -158,16 +158,16 @@ GrowsClear held was is =
     (is.level ≡ was.level)
     ⊎ ((was.level ≡ is.level + 1) × (meets_chunk held (was.start + size_of was.level) was.level ≡ false))
 
-pub good_with_grown : (space : Space) (m : Machine) (name : ℕ) (before other : LoaderState) (place : ℕ) (was is : Chunk)
-    → HasLoader m name before → slice_get (arena_of space before).chunks place ≡ Some was
-    → (arena_of space other).chunks ≡ slice_set (arena_of space before).chunks place is
+pub good_with_grown : (space : Space) (m : Machine) (name : ℕ) (before other : LoaderState) (index : ℕ) (was is : Chunk)
+    → HasLoader m name before → slice_get (arena_of space before).chunks index ≡ Some was
+    → (arena_of space other).chunks ≡ slice_set (arena_of space before).chunks index is
     → (arena_of (other_space space) other).chunks ≡ (arena_of (other_space space) before).chunks → IsSoundLoader other
     → IsPart is.start is.level
     → HasFront m.limits.policy is → is.start ≡ was.start → GrowsClear (chunks_held space m.loaders) was is
     → length (committed_now (pool_of space (changed space m name other (slots_in space m))))
     + length (committed_in (other_space space) m) ≤ m.limits.granules
     → IsGood m → IsGood (recommitted (changed space m name other (slots_in space m)))
-good_with_grown space m name before other place was is found at chunks elsewhere sound placed front same grows few
+good_with_grown space m name before other index was is found at chunks elsewhere sound placed front same grows few
     good =
     good_with_change space m name before other slots found elsewhere sound (record {
       held = rw (slots_stay, new) (held_with m.limits.policy slots b is a placed front reserved clear others);
@@ -194,8 +194,8 @@ good_with_grown space m name before other place was is found at chunks elsewhere
     last : List Chunk
     last = chunks_held space split.after
 
-    parted : Parted own place was is
-    parted = parted_at own place was is at
+    parted : Parted own index was is
+    parted = parted_at own index was is at
 
     b : List Chunk
     b = first ++ parted.before

@@ -23,7 +23,7 @@ use Rattle.ms_base.specs.Transition.{HasLoader, with_loader, Change, MayChange, 
 use Rattle.ms_base.specs.Request.{alloc_in}
 use Rattle.ms_base.specs.Run.Event.{taking, growing, acting, lent, replied, refused, Takes, TakesNone, GrowsChunk, with_chunk_at}
 use Rattle.ms_base.specs.Run.Spread.{SpreadStep, Part, AreWhole, AsksChunk, words_for}
-use Rattle.ms_base.specs.Run.Serial.{is_place}
+use Rattle.ms_base.specs.Run.Serial.{is_position}
 use Rattle.ms_base.proofs.granules.TakingLimitLemmas.{taken_is}
 use Rattle.ms_base.proofs.machine.ChangeLemmas.{slots_same}
 use Rattle.ms_base.proofs.events.GrownEventLemmas.{grows_well, set_same}
@@ -76,7 +76,7 @@ module _ (space : Space) (name block words : ℕ) (spread : SpreadStep)
   abbrev after_it : Reply → List Part
   after_it reply = (Some spread, acting request, replied reply) ∷ more
 
-  owed : (reply : Reply) → spread.reply ≡ reply → is_place spread.events (acting request, replied reply) ≡ false
+  owed : (reply : Reply) → spread.reply ≡ reply → is_position spread.events (acting request, replied reply) ≡ false
       → IsOwed request reply (acting request) (replied reply) false (after_it reply)
   owed reply reply_is elsewhere =
       record {
@@ -84,15 +84,15 @@ module _ (space : Space) (name block words : ℕ) (spread : SpreadStep)
         more = more;
         step_is = step_is;
         reply_is = reply_is;
-        place_is = elsewhere;
+        position_is = elsewhere;
         parts_are = refl;
         whole = whole;
       }
 
   -- A chunk is taken.
   pub goes_on_taken : (p m n start : ℕ) (chunk : Chunk) → spread.reply ≡ At start
-      → is_place spread.events (taking space name p m n, lent chunk) ≡ true
-      → is_place spread.events (acting request, replied (At start)) ≡ false → Takes old space name p m n chunk new
+      → is_position spread.events (taking space name p m n, lent chunk) ≡ true
+      → is_position spread.events (acting request, replied (At start)) ≡ false → Takes old space name p m n chunk new
       → AsksChunk old space name p m n (words_for spread.step)
       → GoesOnBy name stage old new (Some spread, taking space name p m n, lent chunk) (after_it (At start))
   goes_on_taken p m n start chunk reply_is here elsewhere takes asks =
@@ -117,8 +117,8 @@ module _ (space : Space) (name block words : ℕ) (spread : SpreadStep)
 
   -- A chunk grows.
   pub goes_on_grown : IsGood old → (at total start : ℕ) (enlarges : Bool) (chunk : Chunk) → spread.reply ≡ At start
-      → is_place spread.events (growing space name at total enlarges, lent chunk) ≡ true
-      → is_place spread.events (acting request, replied (At start)) ≡ false
+      → is_position spread.events (growing space name at total enlarges, lent chunk) ≡ true
+      → is_position spread.events (acting request, replied (At start)) ≡ false
       → GrowsChunk old space name at total enlarges chunk new
       → GoesOnBy name stage old new (Some spread, growing space name at total enlarges, lent chunk)
       (after_it (At start))
@@ -140,18 +140,18 @@ module _ (space : Space) (name block words : ℕ) (spread : SpreadStep)
       arena = arena_of space grows.loader
 
       greater : ArenaState
-      greater = with_chunk_at arena grows.place chunk
+      greater = with_chunk_at arena grows.index chunk
 
       change : List Chunk → Change
       change chunks = record { chunks = chunks; slots = slots_in space old }
 
       changes : MayChange old.limits.policy (block_words words) (change arena.chunks) (change greater.chunks)
       changes = elim (grows_well space old name at total enlarges chunk new good grows).changes [
-        | inl same ↦ inl (ap change (ap (slice_set arena.chunks grows.place) same
-            ∙ set_same arena.chunks grows.place grows.was grows.asked.found))
+        | inl same ↦ inl (ap change (ap (slice_set arena.chunks grows.index) same
+            ∙ set_same arena.chunks grows.index grows.was grows.asked.found))
         | inr grown ↦
             inr (inl (record {
-              place = grows.place;
+              index = grows.index;
               was = grows.was;
               is = chunk;
               found = grows.asked.found;
@@ -163,8 +163,8 @@ module _ (space : Space) (name block words : ℕ) (spread : SpreadStep)
 
   -- A chunk is refused.
   pub goes_on_refused : (p m n : ℕ) (refusal : Refusal) → spread.reply ≡ Refused refusal
-      → is_place spread.events (taking space name p m n, refused refusal) ≡ true
-      → is_place spread.events (acting request, replied (Refused refusal)) ≡ false
+      → is_position spread.events (taking space name p m n, refused refusal) ≡ true
+      → is_position spread.events (acting request, replied (Refused refusal)) ≡ false
       → TakesNone old space name p m n refusal new → AsksChunk old space name p m n (words_for spread.step)
       → GoesOnBy name stage old new (Some spread, taking space name p m n, refused refusal) (after_it (Refused refusal))
   goes_on_refused p m n refusal reply_is here elsewhere none asks =

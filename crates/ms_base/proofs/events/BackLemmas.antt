@@ -12,16 +12,16 @@ use Rattle.ms_base.specs.Run.{Run}
 use Rattle.ms_base.specs.Transition.{Transition}
 use Rattle.ms_base.specs.Run.Event.{Event, Answer}
 use Rattle.ms_base.specs.Run.Spread.{SpreadStep}
-use Rattle.ms_base.specs.Run.Serial.{is_place, done_by, steps_of, replies_of}
+use Rattle.ms_base.specs.Run.Serial.{is_position, done_by, steps_of, replies_of}
 use Rattle.ms_base.proofs.events.StageLemmas.{Stage, Shows, GoesBack}
 
--- What counts as done at an event, by whether it is the place.
-pub done_there : (spread : SpreadStep) (event : Event) (answer : Answer) → is_place spread.events (event, answer) ≡ true
+-- What counts as done at an event, by whether it has the step's position.
+pub done_there : (spread : SpreadStep) (event : Event) (answer : Answer) → is_position spread.events (event, answer) ≡ true
     → done_by (Some spread) (event, answer) ≡ (spread.step, spread.reply) ∷ []
 done_there spread event answer e = ap (λ (b : Bool). if b then (spread.step, spread.reply) ∷ [] else []) e
 
 pub done_elsewhere : (spread : SpreadStep) (event : Event) (answer : Answer)
-    → is_place spread.events (event, answer) ≡ false → done_by (Some spread) (event, answer) ≡ []
+    → is_position spread.events (event, answer) ≡ false → done_by (Some spread) (event, answer) ≡ []
 done_elsewhere spread event answer e = ap (λ (b : Bool). if b then (spread.step, spread.reply) ∷ [] else []) e
 
 -- Loaders with the same chunks are one to the pool, and commit the same.
@@ -48,7 +48,7 @@ recommitted_seen m seen held =
       class_committed = committed_now pool;
     }) (pool_seen Class m seen (held Class))
 
--- An event that is not its step's place leaves the serial order's machine.
+-- An event that has not its step's position leaves the serial order's machine.
 pub goes_back : (name : ℕ) (stage : Stage) (old new : Machine) (seen : List (ℕ × LoaderState))
     (done : List (Step × Reply))
     → done ≡ [] → AreNamed seen → Shows stage (named seen name) (named old.loaders name)
@@ -63,7 +63,7 @@ goes_back name stage old new seen done none rises mine same = record {
       (subst (λ (m : Machine). Run m (steps_of later) (replies_of later) end) same run);
 }
 
--- The place of a step is that step of the serial order's machine.
+-- At the position of a step is that step of the serial order's machine.
 pub steps_back : (name : ℕ) (stage : Stage) (old new : Machine) (seen loaders : List (ℕ × LoaderState))
     (done : List (Step × Reply)) (step : Step) (reply : Reply)
     → done ≡ (step, reply) ∷ [] → AreNamed loaders

@@ -11,7 +11,7 @@ use Rattle.ms_base.specs.Request.{alloc_in, loader_of}
 use Rattle.ms_base.specs.State.{Machine}
 use Rattle.ms_base.specs.Run.Event.{Event, taking, acting, Answer, lent, replied, refused, Happens}
 use Rattle.ms_base.specs.Run.Spread.{SpreadStep, IsOwnReply, Part, AreWhole, HasNoSpan, not_asked, not_had, GoesOn}
-use Rattle.ms_base.specs.Run.Serial.{is_place}
+use Rattle.ms_base.specs.Run.Serial.{is_position}
 use Rattle.ms_base.proofs.events.StageLemmas.{Stage, rest_of, GoesOnBy, FirstGoesOn}
 use Rattle.ms_base.proofs.events.AllocEventLemmas.{IsPlain}
 use Rattle.ms_base.proofs.events.AskLemmas.{goes_on_taken, goes_on_refused}
@@ -42,7 +42,7 @@ module _ (space : Space) (mine block words : ℕ) (spread : SpreadStep)
 
   -- Its local event alone.
   alone : (reply : Reply) → spread.reply ≡ reply → IsOwnReply reply → (more : List Part) → AreWhole more
-      → is_place spread.events (acting request, replied reply) ≡ true
+      → is_position spread.events (acting request, replied reply) ≡ true
       → Happens old (acting request) (replied reply) new
       → GoesOnBy mine stage old new (Some spread, acting request, replied reply) more
   alone Done reply_is own more whole here does = absurd (not_done space old mine block words new does)
@@ -60,26 +60,26 @@ module _ (space : Space) (mine block words : ℕ) (spread : SpreadStep)
   abbrev passed : (p m n : ℕ) (refusal : Refusal) → List (Event × Answer)
   passed p m n refusal = (taking space mine p m n, refused refusal) ∷ (acting request, replied (Refused refusal)) ∷ []
 
-  record Places (asked events : List (Event × Answer)) (first last : Event × Answer) : Type 0 where
-    here : is_place (asked ++ events) first ≡ true
-    elsewhere : is_place (asked ++ events) last ≡ false
+  record Positions (asked events : List (Event × Answer)) (first last : Event × Answer) : Type 0 where
+    here : is_position (asked ++ events) first ≡ true
+    elsewhere : is_position (asked ++ events) last ≡ false
 
-  places_taken : (asked : List (Event × Answer)) → HasNoSpan space mine asked → (p m n start : ℕ) (chunk : Chunk)
-      → Places asked (took p m n start chunk) (taking space mine p m n, lent chunk) (acting request, replied (At start))
-  places_taken [] not_asked p m n start chunk = record { here = refl; elsewhere = refl }
-  places_taken (a ∷ asked) (not_had at total enlarges refusal) p m n start chunk =
+  positions_taken : (asked : List (Event × Answer)) → HasNoSpan space mine asked → (p m n start : ℕ) (chunk : Chunk)
+      → Positions asked (took p m n start chunk) (taking space mine p m n, lent chunk) (acting request, replied (At start))
+  positions_taken [] not_asked p m n start chunk = record { here = refl; elsewhere = refl }
+  positions_taken (a ∷ asked) (not_had at total enlarges refusal) p m n start chunk =
       record { here = refl; elsewhere = refl }
 
-  places_passed : (asked : List (Event × Answer)) → HasNoSpan space mine asked → (p m n : ℕ) (refusal : Refusal)
-      → Places asked (passed p m n refusal) (taking space mine p m n, refused refusal)
+  positions_passed : (asked : List (Event × Answer)) → HasNoSpan space mine asked → (p m n : ℕ) (refusal : Refusal)
+      → Positions asked (passed p m n refusal) (taking space mine p m n, refused refusal)
       (acting request, replied (Refused refusal))
-  places_passed [] not_asked p m n refusal = record { here = refl; elsewhere = refl }
-  places_passed (a ∷ asked) (not_had at total enlarges other) p m n refusal = record { here = refl; elsewhere = refl }
+  positions_passed [] not_asked p m n refusal = record { here = refl; elsewhere = refl }
+  positions_passed (a ∷ asked) (not_had at total enlarges other) p m n refusal = record { here = refl; elsewhere = refl }
 
-  place_alone : (asked : List (Event × Answer)) → HasNoSpan space mine asked → (reply : Reply)
-      → is_place (asked ++ (acting request, replied reply) ∷ []) (acting request, replied reply) ≡ true
-  place_alone [] not_asked reply = refl
-  place_alone (a ∷ asked) (not_had at total enlarges other) reply = refl
+  position_alone : (asked : List (Event × Answer)) → HasNoSpan space mine asked → (reply : Reply)
+      → is_position (asked ++ (acting request, replied reply) ∷ []) (acting request, replied reply) ≡ true
+  position_alone [] not_asked reply = refl
+  position_alone (a ∷ asked) (not_had at total enlarges other) reply = refl
 
   -- The first event of what is left, whatever was asked for in vain before it.
   module _ (name : ℕ)
@@ -94,33 +94,33 @@ module _ (space : Space) (mine block words : ℕ) (spread : SpreadStep)
     goes_on_first asked rest reply reply_is no_span (inl takes) events_are more whole =
         let its : spread.events ≡ asked ++ took takes.p takes.m takes.words takes.at takes.chunk = events_are ∙ ap
         (λ (l : List (Event × Answer)). asked ++ l) takes.events_are in
-        let places = places_taken asked no_span takes.p takes.m takes.words takes.at takes.chunk in
+        let positions = positions_taken asked no_span takes.p takes.m takes.words takes.at takes.chunk in
         subst (λ (l : List (Event × Answer)). goal l more) (sym takes.events_are) (λ happens asks is_mine.
         onto (Some spread, taking space mine takes.p takes.m takes.words, lent takes.chunk)
         ((Some spread, acting request, replied (At takes.at)) ∷ more) is_mine
         (goes_on_taken space mine block words spread step_is stage plain old new more whole takes.p takes.m takes.words
         takes.at takes.chunk (reply_is ∙ takes.served)
-        (ap (λ (l : List (Event × Answer)). is_place l
-        (taking space mine takes.p takes.m takes.words, lent takes.chunk)) its ∙ places.here)
-        (ap (λ (l : List (Event × Answer)). is_place l (acting request, replied (At takes.at))) its
-        ∙ places.elsewhere) happens asks))
+        (ap (λ (l : List (Event × Answer)). is_position l
+        (taking space mine takes.p takes.m takes.words, lent takes.chunk)) its ∙ positions.here)
+        (ap (λ (l : List (Event × Answer)). is_position l (acting request, replied (At takes.at))) its
+        ∙ positions.elsewhere) happens asks))
     goes_on_first asked rest reply reply_is no_span (inr (inl passes)) events_are more whole =
         let its : spread.events ≡ asked ++ passed passes.p passes.m passes.words passes.refusal = events_are ∙ ap
         (λ (l : List (Event × Answer)). asked ++ l) passes.events_are in
-        let places = places_passed asked no_span passes.p passes.m passes.words passes.refusal in
+        let positions = positions_passed asked no_span passes.p passes.m passes.words passes.refusal in
         subst (λ (l : List (Event × Answer)). goal l more) (sym passes.events_are) (λ happens asks is_mine.
         onto (Some spread, taking space mine passes.p passes.m passes.words, refused passes.refusal)
         ((Some spread, acting request, replied (Refused passes.refusal)) ∷ more) is_mine
         (goes_on_refused space mine block words spread step_is stage plain old new more whole passes.p passes.m
         passes.words passes.refusal (reply_is ∙ passes.passed)
-        (ap (λ (l : List (Event × Answer)). is_place l
-        (taking space mine passes.p passes.m passes.words, refused passes.refusal)) its ∙ places.here)
-        (ap (λ (l : List (Event × Answer)). is_place l (acting request, replied (Refused passes.refusal))) its
-        ∙ places.elsewhere) happens asks))
+        (ap (λ (l : List (Event × Answer)). is_position l
+        (taking space mine passes.p passes.m passes.words, refused passes.refusal)) its ∙ positions.here)
+        (ap (λ (l : List (Event × Answer)). is_position l (acting request, replied (Refused passes.refusal))) its
+        ∙ positions.elsewhere) happens asks))
     goes_on_first asked rest reply reply_is no_span (inr (inr none)) events_are more whole =
         subst (λ (l : List (Event × Answer)). goal l more) (sym none.events_are) (λ happens asks is_mine.
         onto (Some spread, acting request, replied reply) more (sym (names_it space mine block words) ∙ is_mine)
         (alone reply reply_is none.own more whole
-        (ap (λ (l : List (Event × Answer)). is_place l (acting request, replied reply))
+        (ap (λ (l : List (Event × Answer)). is_position l (acting request, replied reply))
         (events_are ∙ ap (λ (l : List (Event × Answer)). asked ++ l) none.events_are)
-        ∙ place_alone asked no_span reply) happens))
+        ∙ position_alone asked no_span reply) happens))

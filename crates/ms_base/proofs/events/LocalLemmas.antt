@@ -11,7 +11,7 @@ use Rattle.ms_base.specs.Good.{IsGood}
 use Rattle.ms_base.specs.Transition.{HasLoader, with_loader, Transition}
 use Rattle.ms_base.specs.Run.Event.{acting, replied, ActsNotCause}
 use Rattle.ms_base.specs.Run.Spread.{SpreadStep, Part, AreWhole, IsOwnReply}
-use Rattle.ms_base.specs.Run.Serial.{is_place}
+use Rattle.ms_base.specs.Run.Serial.{is_position}
 use Rattle.ms_base.proofs.entries.EntryLemmas.{rises_with_changed}
 use Rattle.ms_base.proofs.entries.LookupLemmas.{named_changed_same, named_changed_other}
 use Rattle.ms_base.proofs.events.SeenEntryLemmas.{changed_back}
@@ -21,11 +21,11 @@ use Rattle.ms_base.proofs.events.BackLemmas.{done_there, with_seen, steps_back}
 use Rattle.ms_base.proofs.events.AllocEventLemmas.{IsPlain}
 use Rattle.ms_base.proofs.events.AskLemmas.{same_step}
 
--- A local event that is refused is the whole step, or its place: nothing changes.
+-- A local event that is refused is the whole step, or at its position: nothing changes.
 pub acts_refused : (name : ℕ) (spread : SpreadStep) (stage : Stage) (old new : Machine) (step : Step)
     (refusal : Refusal) (more : List Part)
     → AreWhole more → IsPlain stage → spread.step ≡ step → spread.reply ≡ Refused refusal → loader_of step ≡ Some name
-    → IsOwnReply (Refused refusal) → is_place spread.events (acting step, replied (Refused refusal)) ≡ true
+    → IsOwnReply (Refused refusal) → is_position spread.events (acting step, replied (Refused refusal)) ≡ true
     → ActsNotCause old step refusal × (new ≡ old)
     → GoesOnBy name stage old new (Some spread, acting step, replied (Refused refusal)) more
 acts_refused name spread stage old new step refusal more whole plain step_is reply_is its own here none =
@@ -78,7 +78,7 @@ served_back name stage old step reply before after plain has transition seen its
 pub acts_on_block : (name : ℕ) (spread : SpreadStep) (old new : Machine) (step : Step) (reply : Reply)
     (more : List Part)
     → AreWhole more → spread.step ≡ step → spread.reply ≡ reply
-    → is_place spread.events (acting step, replied reply) ≡ true → (before after : LoaderState)
+    → is_position spread.events (acting step, replied reply) ≡ true → (before after : LoaderState)
     → HasLoader old name before → new ≡ with_loader old name after
     → ((m : Machine) → HasLoader m name before → IsGood (with_loader m name after)
     → Transition m step reply (with_loader m name after))

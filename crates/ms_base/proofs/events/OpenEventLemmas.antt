@@ -15,7 +15,7 @@ use Rattle.ms_base.specs.Good.{IsGood}
 use Rattle.ms_base.specs.Transition.{NewCause}
 use Rattle.ms_base.specs.Run.Event.{opening, closing, acting, accepted, replied, refused, Opens, Closes, Empties, emptied}
 use Rattle.ms_base.specs.Run.Spread.{SpreadStep, Part, AreWhole}
-use Rattle.ms_base.specs.Run.Serial.{is_place, done_by}
+use Rattle.ms_base.specs.Run.Serial.{is_position, done_by}
 use Rattle.ms_base.proofs.entries.NameLemmas.{rises_with_new}
 use Rattle.ms_base.proofs.entries.EntryLemmas.{Split, split_at, rises_without}
 use Rattle.ms_base.proofs.entries.LookupLemmas.{named_changed_same, named_new_same, named_new_other}
@@ -32,7 +32,7 @@ use Rattle.ms_base.proofs.events.AskLemmas.{same_step}
 module _ (name : ℕ) (spread : SpreadStep) (old new : Machine) (more : List Part) (whole : AreWhole more) where
   -- A loader is made.
   pub goes_on_opened : (kind : Kind) → spread.step ≡ New name kind → spread.reply ≡ Done
-      → is_place spread.events (opening name kind, accepted) ≡ true → Opens old name kind new
+      → is_position spread.events (opening name kind, accepted) ≡ true → Opens old name kind new
       → GoesOnBy name idle old new (Some spread, opening name kind, accepted) more
   goes_on_opened kind step_is reply_is here opens =
       subst (λ (one : Machine). GoesOnBy name idle old one (Some spread, opening name kind, accepted) more)
@@ -67,7 +67,7 @@ module _ (name : ℕ) (spread : SpreadStep) (old new : Machine) (more : List Par
 
   -- None is, since owner numbers are used up.
   pub goes_on_unopened : (kind : Kind) → spread.step ≡ New name kind → spread.reply ≡ Refused IdsUsedUp
-      → is_place spread.events (opening name kind, refused IdsUsedUp) ≡ true
+      → is_position spread.events (opening name kind, refused IdsUsedUp) ≡ true
       → NewCause old name IdsUsedUp × (new ≡ old)
       → GoesOnBy name idle old new (Some spread, opening name kind, refused IdsUsedUp) more
   goes_on_unopened kind step_is reply_is here none =
@@ -88,8 +88,8 @@ module _ (name : ℕ) (spread : SpreadStep) (old new : Machine) (more : List Par
 
   -- One is made that is closed again for want of memory: in the serial order none was.
   pub goes_on_in_vain : (kind : Kind) → spread.step ≡ New name kind → spread.reply ≡ Refused OutOfMemory
-      → is_place spread.events (opening name kind, accepted) ≡ true
-      → is_place spread.events (closing name, accepted) ≡ false → Opens old name kind new
+      → is_position spread.events (opening name kind, accepted) ≡ true
+      → is_position spread.events (closing name, accepted) ≡ false → Opens old name kind new
       → GoesOnBy name idle old new (Some spread, opening name kind, accepted)
       ((Some spread, closing name, accepted) ∷ more)
   goes_on_in_vain kind step_is reply_is here elsewhere opens =
@@ -105,7 +105,7 @@ module _ (name : ℕ) (spread : SpreadStep) (old new : Machine) (more : List Par
             more = more;
             step_is = step_is;
             reply_is = reply_is;
-            place_is = elsewhere;
+            position_is = elsewhere;
             parts_are = refl;
             whole = whole;
           },
@@ -122,8 +122,8 @@ module _ (name : ℕ) (spread : SpreadStep) (old new : Machine) (more : List Par
 
   -- A loader is emptied: in the serial order it has all until it is closed.
   pub goes_on_emptied : IsGood old → spread.step ≡ Unload name → spread.reply ≡ Done
-      → is_place spread.events (acting (Unload name), replied Done) ≡ false
-      → is_place spread.events (closing name, accepted) ≡ true → Empties old name new
+      → is_position spread.events (acting (Unload name), replied Done) ≡ false
+      → is_position spread.events (closing name, accepted) ≡ true → Empties old name new
       → GoesOnBy name idle old new (Some spread, acting (Unload name), replied Done)
       ((Some spread, closing name, accepted) ∷ more)
   goes_on_emptied good step_is reply_is elsewhere later empties =
@@ -140,7 +140,7 @@ module _ (name : ℕ) (spread : SpreadStep) (old new : Machine) (more : List Par
           more = more;
           step_is = step_is;
           reply_is = reply_is;
-          place_is = later;
+          position_is = later;
           parts_are = refl;
           whole = whole;
         };
@@ -154,7 +154,7 @@ module _ (name : ℕ) (spread : SpreadStep) (old new : Machine) (more : List Par
 
   -- It is closed, and unloaded.
   pub goes_on_closed : (loader : LoaderState) → spread.step ≡ Unload name → spread.reply ≡ Done
-      → is_place spread.events (closing name, accepted) ≡ true → IsGood old → Closes old name new
+      → is_position spread.events (closing name, accepted) ≡ true → IsGood old → Closes old name new
       → GoesOnBy name (unloading loader) old new (Some spread, closing name, accepted) more
   goes_on_closed loader step_is reply_is here good closes =
       subst (λ (one : Machine). GoesOnBy name (unloading loader) old one (Some spread, closing name, accepted) more)
@@ -187,7 +187,7 @@ module _ (name : ℕ) (spread : SpreadStep) (old new : Machine) (more : List Par
           )
 
   -- One that was made in vain is closed: nothing changes but its name.
-  pub goes_on_retracted : (step : Step) (reply : Reply) → is_place spread.events (closing name, accepted) ≡ false
+  pub goes_on_retracted : (step : Step) (reply : Reply) → is_position spread.events (closing name, accepted) ≡ false
       → IsGood old → Was retracting (named old.loaders name) → Closes old name new
       → GoesOnBy name retracting old new (Some spread, closing name, accepted) more
   goes_on_retracted step reply elsewhere good was closes =

@@ -14,7 +14,7 @@ use Rattle.ms_base.specs.Good.{IsSoundLoader, IsGood}
 use Rattle.ms_base.specs.Transition.{HasLoader, with_loader, Change, Allocates, IsServable}
 use Rattle.ms_base.specs.Run.Event.{growing, acting, replied, refused, Happens, PlacesBlock, ActsNotCause, IsSoundAfter, GrowsNone}
 use Rattle.ms_base.specs.Run.Spread.{SpreadStep, Part, AreWhole}
-use Rattle.ms_base.specs.Run.Serial.{is_place}
+use Rattle.ms_base.specs.Run.Serial.{is_position}
 use Rattle.ms_base.proofs.entries.LookupLemmas.{named_changed_same}
 use Rattle.ms_base.proofs.machine.ChangeLemmas.{unchanged_pools}
 use Rattle.ms_base.proofs.events.SeenEntryLemmas.{changed_back}
@@ -25,11 +25,11 @@ use Rattle.ms_base.proofs.events.AllocEventLemmas.{IsPlain, served_in}
 use Rattle.ms_base.proofs.events.AskLemmas.{same_step}
 use Rattle.ms_base.proofs.events.LocalLemmas.{served_back}
 
--- A growth that is refused changes nothing, and is no step's place.
+-- A growth that is refused changes nothing, and is at no step's position.
 pub goes_on_turned : (space : Space) (name : ℕ) (spread : SpreadStep) (stage : Stage) → IsPlain stage
     → (old new : Machine) (at total : ℕ) (enlarges : Bool) (refusal : Refusal) (rest : List Part)
     → IsOnItsWay name spread rest
-    → is_place spread.events (growing space name at total enlarges, refused refusal) ≡ false
+    → is_position spread.events (growing space name at total enlarges, refused refusal) ≡ false
     → GrowsNone old space name at total enlarges refusal new
     → GoesOnBy name stage old new (Some spread, growing space name at total enlarges, refused refusal) rest
 goes_on_turned space name spread stage plain old new at total enlarges refusal rest on elsewhere none =
@@ -68,7 +68,7 @@ added_by Class old name block words start new does = has_added old Class name bl
 -- A block that is owed is there in the serial order already.
 pub pays_block : (space : Space) (name block words start : ℕ) (spread : SpreadStep) (old new : Machine)
     (more : List Part)
-    → AreWhole more → is_place spread.events (acting (alloc_in space name block words), replied (At start)) ≡ false
+    → AreWhole more → is_position spread.events (acting (alloc_in space name block words), replied (At start)) ≡ false
     → HasAdded old space name block words start new
     → GoesOnBy name (owes_block space block words start) old new
     (Some spread, acting (alloc_in space name block words), replied (At start)) more
@@ -110,7 +110,7 @@ servable_by space m name block words _ passed cause = absurd passed
 pub pays_refusal : (space : Space) (name block words : ℕ) (refusal : Refusal) (spread : SpreadStep)
     (old new : Machine) (more : List Part)
     → AreWhole more → IsPassed refusal
-    → is_place spread.events (acting (alloc_in space name block words), replied (Refused refusal)) ≡ false
+    → is_position spread.events (acting (alloc_in space name block words), replied (Refused refusal)) ≡ false
     → ActsNotCause old (alloc_in space name block words) refusal × (new ≡ old)
     → GoesOnBy name (owes_refusal space block words refusal) old new
     (Some spread, acting (alloc_in space name block words), replied (Refused refusal)) more
@@ -140,7 +140,7 @@ pays_refusal space name block words refusal spread old new more whole passed els
 pub goes_on_placed : (space : Space) (name block words start : ℕ) (spread : SpreadStep)
     → spread.step ≡ alloc_in space name block words → spread.reply ≡ At start → (stage : Stage) → IsPlain stage
     → (old new : Machine) (more : List Part) → AreWhole more
-    → is_place spread.events (acting (alloc_in space name block words), replied (At start)) ≡ true
+    → is_position spread.events (acting (alloc_in space name block words), replied (At start)) ≡ true
     → HasAdded old space name block words start new
     → GoesOnBy name stage old new (Some spread, acting (alloc_in space name block words), replied (At start)) more
 goes_on_placed space name block words start spread step_is reply_is stage plain old new more whole here added =

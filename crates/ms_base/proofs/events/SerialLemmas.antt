@@ -23,7 +23,7 @@ use Rattle.ms_base.specs.Transition.{purged}
 use Rattle.ms_base.specs.Run.Event.{Event, purging, telling, Answer, counted, told, Happens, loader_of_event}
 use Rattle.ms_base.specs.Run.Spread.{SpreadStep, Spreads, Moment, part_of, parts_by, Follow, IsByItself, IsAskedFor}
 use Rattle.ms_base.specs.Run.Spread.{words_asked}
-use Rattle.ms_base.specs.Run.Serial.{done_by, done_at, serial, steps_of, replies_of, is_place}
+use Rattle.ms_base.specs.Run.Serial.{done_by, done_at, serial, steps_of, replies_of, is_position}
 use Rattle.ms_base.specs.Laws.Spread.{LeavesOthers, IsKeptAt, SpreadsAreSerial}
 use Rattle.ms_base.proofs.granules.FrontSumLemmas.{nothing_is_left}
 use Rattle.ms_base.proofs.events.SeenEntryLemmas.{same_entries}
@@ -146,7 +146,7 @@ by_purge old new seen spread held good whole step_is =
   where
     done : done_by (Some spread) (purging, counted whole.nodes) ≡ (Purge, Done) ∷ []
     done =
-        done_there spread purging (counted whole.nodes) (ap (λ (l : List (Event × Answer)). is_place l
+        done_there spread purging (counted whole.nodes) (ap (λ (l : List (Event × Answer)). is_position l
         (purging, counted whole.nodes)) whole.events_are)
         ∙ same_step spread Purge Done step_is whole.done
 

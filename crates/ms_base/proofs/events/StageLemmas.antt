@@ -19,7 +19,7 @@ use Rattle.ms_base.specs.Request.{alloc_in}
 use Rattle.ms_base.specs.Run.Event.{Event, closing, acting, Answer, accepted, replied, Happens, AddsBlock, emptied}
 use Rattle.ms_base.specs.Run.Event.{loader_of_event}
 use Rattle.ms_base.specs.Run.Spread.{SpreadStep, Part, AreWhole, HasNoSpan, GoesOn, IsAskedFor, words_asked}
-use Rattle.ms_base.specs.Run.Serial.{is_place, done_by, steps_of, replies_of}
+use Rattle.ms_base.specs.Run.Serial.{is_position, done_by, steps_of, replies_of}
 
 -- How far a loader's step has come: none is begun, or one is whose growth was refused; its block is
 -- owed, or a refusal; it is emptied, and is to be closed; or it is to be closed for want of memory.
@@ -78,14 +78,14 @@ Was _ real = ⊤
 abbrev pub rest_of : SpreadStep → List (Event × Answer) → List Part
 rest_of spread events = map (λ (one : Event × Answer). (Some spread, one.0, one.1)) events
 
--- One event is owed, and whether it is the step's place; whole steps follow.
-pub record IsOwed (step : Step) (reply : Reply) (event : Event) (answer : Answer) (place : Bool)
+-- One event is owed, and whether it is at the step's position; whole steps follow.
+pub record IsOwed (step : Step) (reply : Reply) (event : Event) (answer : Answer) (position : Bool)
     (parts : List Part) : Type 0 where
   pub spread : SpreadStep
   pub more : List Part
   pub step_is : spread.step ≡ step
   pub reply_is : spread.reply ≡ reply
-  pub place_is : is_place spread.events (event, answer) ≡ place
+  pub position_is : is_position spread.events (event, answer) ≡ position
   pub parts_are : parts ≡ (Some spread, event, answer) ∷ more
   pub whole : AreWhole more
 

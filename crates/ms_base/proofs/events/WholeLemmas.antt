@@ -26,7 +26,7 @@ use Rattle.ms_base.specs.Run.Event.{Event, opening, growing, closing, acting, An
 use Rattle.ms_base.specs.Run.Event.{Happens}
 use Rattle.ms_base.specs.Run.Spread.{SpreadStep, Spreads, IsWhole, IsAlone, Part, spread_parts, AreWhole, HasNoSpan, not_asked}
 use Rattle.ms_base.specs.Run.Spread.{not_had, GoesOn, SpreadsAlloc}
-use Rattle.ms_base.specs.Run.Serial.{is_place}
+use Rattle.ms_base.specs.Run.Serial.{is_position}
 use Rattle.ms_base.proofs.events.StageLemmas.{Stage, idle, turned_down, owes_block, owes_refusal, unloading, retracting}
 use Rattle.ms_base.proofs.events.StageLemmas.{Was, Left, rest_of, GoesOnBy, FirstGoesOn}
 use Rattle.ms_base.proofs.events.AllocEventLemmas.{IsPlain}
@@ -65,15 +65,15 @@ module _ (name : ℕ) (old new : Machine) (good : IsGood old) (spread : SpreadSt
       → GoesOnBy name idle old new part rest
   onto mine part rest e goes = subst (λ (n : ℕ). GoesOnBy n idle old new part rest) (same_name mine name e) goes
 
-  place_of : (event : Event) (answer : Answer) (events : List (Event × Answer)) → spread.events ≡ events → (b : Bool)
-      → is_place events (event, answer) ≡ b → is_place spread.events (event, answer) ≡ b
-  place_of event answer events its b e = ap (λ (l : List (Event × Answer)). is_place l (event, answer)) its ∙ e
+  position_of : (event : Event) (answer : Answer) (events : List (Event × Answer)) → spread.events ≡ events → (b : Bool)
+      → is_position events (event, answer) ≡ b → is_position spread.events (event, answer) ≡ b
+  position_of event answer events its b e = ap (λ (l : List (Event × Answer)). is_position l (event, answer)) its ∙ e
 
   -- A step that is its local event alone is done there.
   alone_here : (step : Step) (reply : Reply) → IsAlone step reply spread.events
-      → is_place spread.events (acting step, replied reply) ≡ true
+      → is_position spread.events (acting step, replied reply) ≡ true
   alone_here step reply alone =
-      place_of (acting step) (replied reply) ((acting step, replied reply) ∷ []) alone.events_are true refl
+      position_of (acting step) (replied reply) ((acting step, replied reply) ∷ []) alone.events_are true refl
 
   -- So where it is refused.
   refused_alone : (step : Step) (refusal : Refusal) → spread.step ≡ step → spread.reply ≡ Refused refusal
@@ -93,17 +93,17 @@ module _ (name : ℕ) (old new : Machine) (good : IsGood old) (spread : SpreadSt
   first_new mine kind step_is Done reply_is its = subst goal (sym its) (λ happens asks is_mine.
       onto mine (Some spread, opening mine kind, accepted) more is_mine
       (goes_on_opened mine spread old new more whole kind step_is reply_is
-      (place_of (opening mine kind) accepted ((opening mine kind, accepted) ∷ []) its true refl) happens))
+      (position_of (opening mine kind) accepted ((opening mine kind, accepted) ∷ []) its true refl) happens))
   first_new mine kind step_is (Refused IdsUsedUp) reply_is its = subst goal (sym its) (λ happens asks is_mine.
       onto mine (Some spread, opening mine kind, refused IdsUsedUp) more is_mine
       (goes_on_unopened mine spread old new more whole kind step_is reply_is
-      (place_of (opening mine kind) (refused IdsUsedUp) ((opening mine kind, refused IdsUsedUp) ∷ []) its true refl)
+      (position_of (opening mine kind) (refused IdsUsedUp) ((opening mine kind, refused IdsUsedUp) ∷ []) its true refl)
       happens))
   first_new mine kind step_is (Refused OutOfMemory) reply_is (inl its) = subst goal (sym its) (λ happens asks is_mine.
       onto mine (Some spread, opening mine kind, accepted) ((Some spread, closing mine, accepted) ∷ more) is_mine
       (goes_on_in_vain mine spread old new more whole kind step_is reply_is
-      (place_of (opening mine kind) accepted (in_vain mine kind) its true refl)
-      (place_of (closing mine) accepted (in_vain mine kind) its false refl) happens))
+      (position_of (opening mine kind) accepted (in_vain mine kind) its true refl)
+      (position_of (closing mine) accepted (in_vain mine kind) its false refl) happens))
   first_new mine kind step_is (Refused OutOfMemory) reply_is (inr its) = refused_alone
       (New mine kind) OutOfMemory step_is reply_is its
   first_new mine kind step_is (Refused refusal) reply_is its =
@@ -118,8 +118,8 @@ module _ (name : ℕ) (old new : Machine) (good : IsGood old) (spread : SpreadSt
   first_unload mine step_is Done reply_is its = subst goal (sym its) (λ happens asks is_mine.
       onto mine (Some spread, acting (Unload mine), replied Done) ((Some spread, closing mine, accepted) ∷ more) is_mine
       (goes_on_emptied mine spread old new more whole good step_is reply_is
-      (place_of (acting (Unload mine)) (replied Done) (unload_of mine) its false refl)
-      (place_of (closing mine) accepted (unload_of mine) its true refl) happens.0))
+      (position_of (acting (Unload mine)) (replied Done) (unload_of mine) its false refl)
+      (position_of (closing mine) accepted (unload_of mine) its true refl) happens.0))
   first_unload mine step_is (Refused refusal) reply_is its = refused_alone (Unload mine) refusal step_is reply_is its
   first_unload mine step_is (At start) reply_is its = never (Unload mine) (At start) its (λ happens. happens.0)
   first_unload mine step_is (Value value) reply_is its = never (Unload mine) (Value value) its (λ happens. happens.0)
@@ -206,7 +206,7 @@ module _ (name : ℕ) (old new : Machine) (good : IsGood old) (spread : SpreadSt
   turned_elsewhere : (space : Space) (mine at total : ℕ) (enlarges : Bool) (refusal : Refusal) (step : Step)
       (reply : Reply) (rest : List (Event × Answer))
       → GoesOn space mine step reply rest
-      → is_place ((growing space mine at total enlarges, refused refusal) ∷ rest)
+      → is_position ((growing space mine at total enlarges, refused refusal) ∷ rest)
       (growing space mine at total enlarges, refused refusal) ≡ false
   turned_elsewhere space mine at total enlarges refusal step reply rest goes_on = elim goes_on [
     | inl takes ↦ subst elsewhere (sym takes.events_are) refl
@@ -217,7 +217,7 @@ module _ (name : ℕ) (old new : Machine) (good : IsGood old) (spread : SpreadSt
   ]
     where
       elsewhere : List (Event × Answer) → Type 0
-      elsewhere l = is_place ((growing space mine at total enlarges, refused refusal) ∷ l)
+      elsewhere l = is_position ((growing space mine at total enlarges, refused refusal) ∷ l)
           (growing space mine at total enlarges, refused refusal) ≡ false
 
   module _ (space : Space) (mine block words : ℕ) (step_is : spread.step ≡ alloc_in space mine block words)
@@ -250,7 +250,7 @@ module _ (name : ℕ) (old new : Machine) (good : IsGood old) (spread : SpreadSt
           parts_are = refl;
           whole = whole;
         })
-        (place_of (growing space mine at total enlarges) (refused refusal)
+        (position_of (growing space mine at total enlarges) (refused refusal)
         ((growing space mine at total enlarges, refused refusal) ∷ rest) its false
         (turned_elsewhere space mine at total enlarges refusal
         (alloc_in space mine block words) reply rest goes_on)) happens))
@@ -261,9 +261,9 @@ module _ (name : ℕ) (old new : Machine) (good : IsGood old) (spread : SpreadSt
         ((Some spread, acting (alloc_in space mine block words), replied (At grows.at)) ∷ more) is_mine
         (goes_on_grown space mine block words spread step_is idle idle_is_plain old new more whole good grows.start
         grows.total grows.at grows.enlarges grows.chunk (reply_is ∙ grows.served)
-        (place_of (growing space mine grows.start grows.total grows.enlarges)
+        (position_of (growing space mine grows.start grows.total grows.enlarges)
         (lent grows.chunk) _ grows.events_are true refl)
-        (place_of (acting (alloc_in space mine block words))
+        (position_of (acting (alloc_in space mine block words))
         (replied (At grows.at)) _ grows.events_are false refl) happens))
     first_alloc (inr after) = first_asked after.asked after.rest after.no_span after.goes_on after.events_are
 
@@ -305,16 +305,16 @@ first_left name (turned_down spread) old new good was parts left = subst
 first_left name (owes_block space block words start) old new good was parts left = subst
     (FirstGoesOn name (owes_block space block words start) old new) (sym left.parts_are)
     (λ happens asks is_mine. pays_block space name block words start left.spread old new left.more left.whole
-    left.place_is (added_by space old name block words start new happens))
+    left.position_is (added_by space old name block words start new happens))
 first_left name (owes_refusal space block words refusal) old new good was parts left = subst
     (FirstGoesOn name (owes_refusal space block words refusal) old new) (sym left.parts_are)
     (λ happens asks is_mine. pays_refusal space name block words refusal left.spread old new left.more left.whole was
-    left.place_is happens)
+    left.position_is happens)
 first_left name (unloading loader) old new good was parts left = subst (FirstGoesOn name (unloading loader) old new)
     (sym left.parts_are)
     (λ happens asks is_mine. goes_on_closed name left.spread old new left.more left.whole loader left.step_is
-    left.reply_is left.place_is good happens)
+    left.reply_is left.position_is good happens)
 first_left name retracting old new good was parts left =
     subst (FirstGoesOn name retracting old new) (sym left.2.parts_are)
     (λ happens asks is_mine. goes_on_retracted name left.2.spread old new left.2.more left.2.whole left.0 left.1
-    left.2.place_is good was happens)
+    left.2.position_is good was happens)

@@ -53,7 +53,7 @@ grows : Happens alone (growing NonClass 1 0 520 true) (lent (chunk 0 9 1024))
     (machine ((1, record (loader (chunk 0 10 512)) { arena = arena (chunk 0 9 1024 ∷ []) (10 ∷ []) }) ∷ []))
 grows = record {
   loader = loader (chunk 0 10 512);
-  place = 0;
+  index = 0;
   was = chunk 0 10 512;
   asked = record { has = refl; found = refl; starts = refl };
   answer = refl;
@@ -64,7 +64,7 @@ grows = record {
 grows_not : Happens beside (growing NonClass 1 0 520 true) (refused (NoRoom 10)) beside
 grows_not = record {
   loader = loader (chunk 0 10 512);
-  place = 0;
+  index = 0;
   was = chunk 0 10 512;
   asked = record { has = refl; found = refl; starts = refl };
   cause = refl;

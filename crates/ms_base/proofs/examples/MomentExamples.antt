@@ -43,7 +43,7 @@ is_lent_in_class = record {
 is_grown : Happens lent_in_class (growing NonClass 1 0 515 true) (lent (chunk 0 9 1024)) grown_then
 is_grown = record {
   loader = with_one_block;
-  place = 0;
+  index = 0;
   was = chunk 0 10 512;
   asked = record { has = refl; found = refl; starts = refl };
   answer = refl;

@@ -19,7 +19,7 @@ use Rattle.ms_base.specs.Run.Event.{Event, opening, taking, growing, closing, pu
 use Rattle.ms_base.specs.Run.Event.{counted, replied, refused, Happens, emptied, loader_of_event}
 use Rattle.ms_base.specs.Run.Spread.{SpreadStep, Moment, GoesOn, HasNoSpan, Spreads, IsWhole, IsByItself, IsAskedFor}
 use Rattle.ms_base.specs.Run.Spread.{words_asked, Part, spread_parts, AreWhole, IsSpread, not_asked, not_had, parts_by}
-use Rattle.ms_base.specs.Run.Serial.{is_accepted, is_taking, is_closing, is_acting, is_place, serial}
+use Rattle.ms_base.specs.Run.Serial.{is_accepted, is_taking, is_closing, is_acting, is_position, serial}
 
 abbrev pub chunk : ℕ → ℕ → ℕ → Chunk
 chunk at level front = record { start = at; level = level; front = front }
@@ -35,7 +35,7 @@ unload = record {
 unload_is_whole : IsWhole unload
 unload_is_whole = refl
 
-unload_at_its_closing : map (is_place unload.events) unload.events ≡ false ∷ true ∷ []
+unload_at_its_closing : map (is_position unload.events) unload.events ≡ false ∷ true ∷ []
 unload_at_its_closing = refl
 
 -- An allocation that asks for a growth first, which is refused, counts as done at its chunk, be it
@@ -57,7 +57,7 @@ alloc_is_whole = inr (record {
   events_are = refl;
 })
 
-alloc_at_its_chunk : map (is_place alloc.events) alloc.events ≡ true ∷ false ∷ []
+alloc_at_its_chunk : map (is_position alloc.events) alloc.events ≡ true ∷ false ∷ []
 alloc_at_its_chunk = refl
 
 abbrev refused_alloc : SpreadStep
@@ -80,7 +80,7 @@ refused_alloc_is_whole = inr (record {
   events_are = refl;
 })
 
-refused_alloc_at_its_chunk : map (is_place refused_alloc.events) refused_alloc.events ≡ false ∷ true ∷ false ∷ []
+refused_alloc_at_its_chunk : map (is_position refused_alloc.events) refused_alloc.events ≡ false ∷ true ∷ false ∷ []
 refused_alloc_at_its_chunk = refl
 
 -- A New that finds no memory after the opening counts as done at the opening.
@@ -95,14 +95,14 @@ wants_memory =
 wants_memory_is_whole : IsWhole wants_memory
 wants_memory_is_whole = inl refl
 
-new_at_its_opening : map (is_place wants_memory.events) wants_memory.events ≡ true ∷ false ∷ []
+new_at_its_opening : map (is_position wants_memory.events) wants_memory.events ≡ true ∷ false ∷ []
 new_at_its_opening = refl
 
--- A Purge and a Read are one event, which is their place.
-purge_at_its_only_event : is_place ((purging, counted 1) ∷ []) (purging, counted 1) ≡ true
+-- A Purge and a Read are one event, which has their position.
+purge_at_its_only_event : is_position ((purging, counted 1) ∷ []) (purging, counted 1) ≡ true
 purge_at_its_only_event = refl
 
-read_at_its_only_event : is_place ((acting (Read 1 1 0), replied (Value 0)) ∷ [])
+read_at_its_only_event : is_position ((acting (Read 1 1 0), replied (Value 0)) ∷ [])
     (acting (Read 1 1 0), replied (Value 0)) ≡ true
 read_at_its_only_event = refl
 

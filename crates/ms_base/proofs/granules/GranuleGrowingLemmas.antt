@@ -37,9 +37,9 @@ use Rattle.ms_base.proofs.granules.BetweenLemmas.{meets_between, is_between}
 use Rattle.ms_base.proofs.granules.GranuleCountLemmas.{count_with_front}
 
 -- A test that the new chunk passes where the old one did.
-some_grown : (test : Chunk → Bool) (held : List Chunk) (place : ℕ) (was is : Chunk) → slice_get held place ≡ Some was
-    → (test was ≡ true → test is ≡ true) → list_any test (slice_set held place is) ≡ (list_any test held || test is)
-some_grown test [] place was is found passes = absurd (cc)
+some_grown : (test : Chunk → Bool) (held : List Chunk) (index : ℕ) (was is : Chunk) → slice_get held index ≡ Some was
+    → (test was ≡ true → test is ≡ true) → list_any test (slice_set held index is) ≡ (list_any test held || test is)
+some_grown test [] index was is found passes = absurd (cc)
 some_grown test (c ∷ held) zero was is found passes = let its : c ≡ was = cc in
     either (test c) (test is) (list_any test held) (λ e. passes (ap test (sym its) ∙ e))
   where
@@ -49,17 +49,17 @@ some_grown test (c ∷ held) zero was is found passes = let its : c ≡ was = cc
     either false true false f = refl
     either false false true f = refl
     either false false false f = refl
-some_grown test (c ∷ held) (suc place) was is found passes =
-    ap (λ b. test c || b) (some_grown test held place was is found passes)
+some_grown test (c ∷ held) (suc index) was is found passes =
+    ap (λ b. test c || b) (some_grown test held index was is found passes)
     ∙ sym (or_assoc (test c) (list_any test held) (test is))
 
-each_passes : (test : Chunk → Bool) (held : List Chunk) (place : ℕ) (was : Chunk) → slice_get held place ≡ Some was
+each_passes : (test : Chunk → Bool) (held : List Chunk) (index : ℕ) (was : Chunk) → slice_get held index ≡ Some was
     → list_all test held ≡ true → test was ≡ true
-each_passes test [] place was found all = absurd (cc)
+each_passes test [] index was found all = absurd (cc)
 each_passes test (c ∷ held) zero was found all = let its : c ≡ was =
     cc in ap test (sym its) ∙ (and_parts (test c) (list_all test held) all).0
-each_passes test (c ∷ held) (suc place) was found all =
-    each_passes test held place was found (and_parts (test c) (list_all test held) all).1
+each_passes test (c ∷ held) (suc index) was found all =
+    each_passes test held index was found (and_parts (test c) (list_all test held) all).1
 
 -- A greater front from the same start meets what the smaller one met.
 pub meets_further : (granule : ℕ) (was is : Chunk) (k : ℕ) → is.start ≡ was.start → was.front ≤ is.front
@@ -70,17 +70,17 @@ meets_further granule was is k same higher meets =
     (omega (arith, bounds.1, same, higher))
 
 -- A chunk that grows commits what its new front was missing.
-pub growing_commits_the_missing : (pool : PoolState) (place : ℕ) (was is : Chunk) → IsSoundPool pool
-    → slice_get pool.held place ≡ Some was
+pub growing_commits_the_missing : (pool : PoolState) (index : ℕ) (was is : Chunk) → IsSoundPool pool
+    → slice_get pool.held index ≡ Some was
     → IsGrown was is → IsPart is.start is.level → is.front ≤ size_of is.level
-    → length (committed_now (with_chunk_grown pool place is)) ≡ length pool.committed + granules_missing pool is
-growing_commits_the_missing pool place was is sound found grows placed within =
-    count_with_front pool (slice_set pool.held place is) pool.slots is sound placed (omega (arith, grows.front)) within
+    → length (committed_now (with_chunk_grown pool index is)) ≡ length pool.committed + granules_missing pool is
+growing_commits_the_missing pool index was is sound found grows placed within =
+    count_with_front pool (slice_set pool.held index is) pool.slots is sound placed (omega (arith, grows.front)) within
     sound.slots
     (ap (λ (s : ℕ). is_reserved pool.slots (slot_of s)) grows.start
-    ∙ each_passes (λ chunk. is_reserved pool.slots (slot_of chunk.start)) pool.held place was found sound.held.reserved)
+    ∙ each_passes (λ chunk. is_reserved pool.slots (slot_of chunk.start)) pool.held index was found sound.held.reserved)
     (committed_in_slots pool sound)
-    (λ k. some_grown (λ (c : Chunk). meets_front (granule_in pool) c k) pool.held place was is found
+    (λ k. some_grown (λ (c : Chunk). meets_front (granule_in pool) c k) pool.held index was is found
     (λ meets. meets_further (granule_in pool) was is k grows.start (omega (arith, grows.front)) meets))
 
 -- A held chunk lacks no granule of its front.

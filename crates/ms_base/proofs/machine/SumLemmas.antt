@@ -101,10 +101,10 @@ capacity_within policy slots held good =
     )
 
 -- A space of a machine has at most its slots.
-at_place : (low n i d : ℕ) → i < n → get_or (range_with_len low n) i d ≡ low + i
-at_place low zero i d h = absurd (omega arith)
-at_place low (suc n) zero d h = omega arith
-at_place low (suc n) (suc i) d h = at_place (low + 1) n i d (omega arith) ∙ omega arith
+at_index : (low n i d : ℕ) → i < n → get_or (range_with_len low n) i d ≡ low + i
+at_index low zero i d h = absurd (omega arith)
+at_index low (suc n) zero d h = omega arith
+at_index low (suc n) (suc i) d h = at_index (low + 1) n i d (omega arith) ∙ omega arith
 
 pub few_slots : (space : Space) (m : Machine) → IsSoundPool (pool_of space m)
     → length (slots_in space m) ≤ most_slots space
@@ -119,7 +119,7 @@ few_slots Class m sound = omega (arith, length-range_with_len 64 nodes, few node
     few n below = elim (cases_lt 16 n) [
       | inl more ↦
           absurd (omega
-          (arith, at_place 64 n 16 0 more, (below 16 0 (omega (arith, length-range_with_len 64 n, more))).1))
+          (arith, at_index 64 n 16 0 more, (below 16 0 (omega (arith, length-range_with_len 64 n, more))).1))
       | inr less ↦ less
     ]
 

@@ -87,18 +87,18 @@ LendingCommitsTheMissing =
     → chunk.front ≤ size_of chunk.level
     → length (committed_now (with_lent pool chunk)) ≡ length pool.committed + granules_missing pool chunk
 
--- The pool with the held chunk at a place grown into another.
+-- The pool with the held chunk at an index grown into another.
 abbrev pub with_chunk_grown : PoolState → ℕ → Chunk → PoolState
-with_chunk_grown pool place chunk = record pool { held = slice_set pool.held place chunk }
+with_chunk_grown pool index chunk = record pool { held = slice_set pool.held index chunk }
 
 -- A held chunk that grows in place commits the granules of its new front that were missing, and no
 -- other.
 abbrev pub GrowingCommitsTheMissing : Type 0
 GrowingCommitsTheMissing =
-    (pool : PoolState) (place : ℕ) (was chunk : Chunk) → IsSoundPool pool → slice_get pool.held place ≡ Some was
+    (pool : PoolState) (index : ℕ) (was chunk : Chunk) → IsSoundPool pool → slice_get pool.held index ≡ Some was
     → IsGrown was chunk
     → IsPart chunk.start chunk.level → chunk.front ≤ size_of chunk.level
-    → length (committed_now (with_chunk_grown pool place chunk)) ≡ length pool.committed + granules_missing pool chunk
+    → length (committed_now (with_chunk_grown pool index chunk)) ≡ length pool.committed + granules_missing pool chunk
 
 -- A chunk grows well where it stays or grows in place, is a part with a front that reaches the
 -- words asked for, and what it lacks is within the limit of granules.

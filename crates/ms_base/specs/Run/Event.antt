@@ -87,35 +87,35 @@ pub record TakesNone (old : Machine) (space : Space) (name p m words : ℕ) (ref
   pub cause : LendsNone (pool_of space old) p m words refusal
   pub after : new ≡ old
 
--- The arena with another chunk at a place.
+-- The arena with another chunk at an index.
 abbrev pub with_chunk_at : ArenaState → ℕ → Chunk → ArenaState
-with_chunk_at arena place chunk = record arena { chunks = slice_set arena.chunks place chunk }
+with_chunk_at arena index chunk = record arena { chunks = slice_set arena.chunks index chunk }
 
 -- A chunk of a loader's is asked to reach further.
-pub record IsAsked (old : Machine) (space : Space) (name start : ℕ) (loader : LoaderState) (place : ℕ)
+pub record IsAsked (old : Machine) (space : Space) (name start : ℕ) (loader : LoaderState) (index : ℕ)
     (chunk : Chunk) : Type 0 where
   pub has : HasLoader old name loader
-  pub found : slice_get (arena_of space loader).chunks place ≡ Some chunk
+  pub found : slice_get (arena_of space loader).chunks index ≡ Some chunk
   pub starts : chunk.start ≡ start
 
 -- It does, as the rule for growing says, and the committed granules follow.
 pub record GrowsChunk (old : Machine) (space : Space) (name start total : ℕ) (may_enlarge : Bool) (chunk : Chunk)
     (new : Machine) : Type 0 where
   pub loader : LoaderState
-  pub place : ℕ
+  pub index : ℕ
   pub was : Chunk
-  pub asked : IsAsked old space name start loader place was
+  pub asked : IsAsked old space name start loader index was
   pub answer : grown (pool_of space old) was total may_enlarge ≡ Ok chunk
   pub after : new ≡ recommitted (with_loader old name
-      (with_arena space loader (with_chunk_at (arena_of space loader) place chunk)))
+      (with_arena space loader (with_chunk_at (arena_of space loader) index chunk)))
 
 -- It doesn't, and nothing changes.
 pub record GrowsNone (old : Machine) (space : Space) (name start total : ℕ) (may_enlarge : Bool) (refusal : Refusal)
     (new : Machine) : Type 0 where
   pub loader : LoaderState
-  pub place : ℕ
+  pub index : ℕ
   pub was : Chunk
-  pub asked : IsAsked old space name start loader place was
+  pub asked : IsAsked old space name start loader index was
   pub cause : grown (pool_of space old) was total may_enlarge ≡ Err refusal
   pub after : new ≡ old
 

@@ -37,10 +37,10 @@ is_lent _ = false
 abbrev pub is_accepted : Event × Answer → Bool
 is_accepted event = (is_growing event || is_taking event) && is_lent event.1
 
--- Of a step's events, its place: its accepted growth or chunk, else the first that there is of its
+-- Of a step's events, the one at its position: its accepted growth or chunk, else the first of its
 -- taking, its opening, its closing and its only event, else its local event.
-abbrev pub is_place : List (Event × Answer) → Event × Answer → Bool
-is_place events event =
+abbrev pub is_position : List (Event × Answer) → Event × Answer → Bool
+is_position events event =
     if list_any is_accepted events then is_accepted event
     else if list_any is_taking events then is_taking event
     else if list_any is_opening events then is_opening event
@@ -50,12 +50,12 @@ is_place events event =
 -- The step that counts as done at a moment, with its reply, if one does.
 abbrev pub done_by : Option SpreadStep → Event × Answer → List (Step × Reply)
 done_by None event = []
-done_by (Some spread) event = if is_place spread.events event then (spread.step, spread.reply) ∷ [] else []
+done_by (Some spread) event = if is_position spread.events event then (spread.step, spread.reply) ∷ [] else []
 
 abbrev pub done_at : Moment → List (Step × Reply)
 done_at moment = done_by moment.of (moment.event, moment.answer)
 
--- The steps with their replies, in the order of their places.
+-- The steps with their replies, in the order of their positions.
 abbrev pub serial : List Moment → List (Step × Reply)
 serial moments = flat_map done_at moments
 

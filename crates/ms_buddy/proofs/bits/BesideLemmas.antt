@@ -12,9 +12,9 @@ use Rattle.ms_base.specs.Level.{size_of, highest_level}
 use Rattle.ms_buddy.specs.Counts.{beside, buddy_of, count_of_number, halves_beside, holder_of, number_of, one_at}
 use Rattle.ms_buddy.specs.FreeBits.{ArePut, IsMoved, MayJoin, MayPart, bit_of}
 use Rattle.ms_buddy.specs.Leaves.{span_at}
-use Rattle.ms_buddy.specs.Tree.{IsPlace}
-use Rattle.ms_buddy.proofs.TreeHalvesLemmas.{holder_is, lower_place, size_of-halves, size_of-some, upper_place}
-use Rattle.ms_buddy.proofs.bits.NumberLemmas.{holder_place, level_back, number_below, number_from}
+use Rattle.ms_buddy.specs.Tree.{IsRootPart}
+use Rattle.ms_buddy.proofs.TreeHalvesLemmas.{holder_is, lower_part, size_of-halves, size_of-some, upper_part}
+use Rattle.ms_buddy.proofs.bits.NumberLemmas.{holder_part, level_back, number_below, number_from}
 use Rattle.ms_buddy.proofs.bits.BuddyLemmas.{lower_is_buddy, number_of-holder, past, upper_is_buddy}
 use Rattle.ms_buddy.proofs.counts.CountLemmas.{lower_beside, number-cons, number-none, number-one, none_beside, upper_beside}
 
@@ -47,23 +47,23 @@ next_beside level at lent m deep low below = elim (cases_lt at (start + size_of 
   | inl lower ↦
       ap (count_of_number m) (upper_beside (lent - level) (lent - (level + 1)) level start at (omega arith) lower)
       ∙ joins (start + size_of (level + 1)) start
-      (upper_is_buddy level start at place (omega arith) (omega arith) lower)
+      (upper_is_buddy level start at of_root (omega arith) (omega arith) lower)
       (ap (λ (part : Span). part.start) (holder_is (level + 1) start (span_at at lent)
-      (lower_place level start place (omega arith)) (omega arith) lower))
+      (lower_part level start of_root (omega arith)) (omega arith) lower))
   | inr above ↦
       ap (count_of_number m) (lower_beside (lent - level) (lent - (level + 1)) level start at (omega arith) above)
       ∙ joins start (start + size_of (level + 1))
-      (lower_is_buddy level start at place (omega arith) above (past at (size_of level) (size_of-some level)))
+      (lower_is_buddy level start at of_root (omega arith) above (past at (size_of level) (size_of-some level)))
       (ap (λ (part : Span). part.start) (holder_is (level + 1) (start + size_of (level + 1)) (span_at at lent)
-      (upper_place level start (start + size_of (level + 1)) place (omega arith) refl) above
+      (upper_part level start (start + size_of (level + 1)) of_root (omega arith) refl) above
       (omega (arith, past at (size_of level) (size_of-some level), size_of-halves level (omega arith)))))
 ]
   where
     start : ℕ
     start = at - at % size_of level
 
-    place : IsPlace level start
-    place = holder_place level (span_at at lent) (omega arith) below
+    of_root : IsRootPart level start
+    of_root = holder_part level (span_at at lent) (omega arith) below
 
     joins : (other next : ℕ) → buddy_of (number_of (span_at at (level + 1))) ≡ number_of (span_at other (level + 1))
         → at - at % size_of (level + 1) ≡ next
@@ -108,10 +108,10 @@ was_set words mid parts m put set = by_case (nat_lt 0 (count_of_number m parts))
     by_case false bit e = e
 
 -- The number of the part that is split is that of none of these halves, whose numbers are larger.
-pub none_is_whole : (times level start at m : ℕ) → level + times ≤ highest_level → IsPlace level start
+pub none_is_whole : (times level start at m : ℕ) → level + times ≤ highest_level → IsRootPart level start
     → m < 2 ^ (level + 1) → count_of_number m (halves_beside times level start at) ≡ 0
-none_is_whole zero level start at m low place small = no_halves zero level start at m refl
-none_is_whole (suc times) level start at m low place small = elim (cases_lt at (start + size_of (level + 1))) [
+none_is_whole zero level start at m low of_root small = no_halves zero level start at m refl
+none_is_whole (suc times) level start at m low of_root small = elim (cases_lt at (start + size_of (level + 1))) [
   | inl below ↦
       ap (count_of_number m) (upper_beside (suc times) times level start at refl below)
       ∙ number-cons m (span_at (start + size_of (level + 1)) (level + 1)) (halves_beside times (level + 1) start at)
@@ -119,8 +119,8 @@ none_is_whole (suc times) level start at m low place small = elim (cases_lt at (
         arith,
         other (number_of (span_at (start + size_of (level + 1)) (level + 1)))
             (number_from (level + 1) (start + size_of (level + 1))
-            (upper_place level start (start + size_of (level + 1)) place (omega arith) refl)),
-        none_is_whole times (level + 1) start at m (omega arith) (lower_place level start place (omega arith))
+            (upper_part level start (start + size_of (level + 1)) of_root (omega arith) refl)),
+        none_is_whole times (level + 1) start at m (omega arith) (lower_part level start of_root (omega arith))
             (omega (arith, small, grows)),
       )
   | inr above ↦
@@ -130,9 +130,9 @@ none_is_whole (suc times) level start at m low place small = elim (cases_lt at (
       ∙ omega (
         arith,
         other (number_of (span_at start (level + 1)))
-            (number_from (level + 1) start (lower_place level start place (omega arith))),
+            (number_from (level + 1) start (lower_part level start of_root (omega arith))),
         none_is_whole times (level + 1) (start + size_of (level + 1)) at m (omega arith)
-            (upper_place level start (start + size_of (level + 1)) place (omega arith) refl)
+            (upper_part level start (start + size_of (level + 1)) of_root (omega arith) refl)
             (omega (arith, small, grows)),
       )
 ]
@@ -151,7 +151,7 @@ part_apart : (level at lent m : ℕ) → level ≤ lent → lent ≤ highest_lev
     → count_of_number m (beside (holder_of level (span_at at lent)) (span_at at lent)) ≡ 0
 part_apart level at lent m deep low below small =
     none_is_whole (lent - level) level (at - at % size_of level) at m (omega (arith, deep, low))
-    (holder_place level (span_at at lent) (omega (arith, deep, low)) below) (omega (arith, small, pow-add 2 level 1))
+    (holder_part level (span_at at lent) (omega (arith, deep, low)) below) (omega (arith, small, pow-add 2 level 1))
 
 pub was_clear : (words mid : List ℕ) (level at lent : ℕ) → level ≤ lent → lent ≤ highest_level → at < 524288
     → ArePut words (beside (holder_of level (span_at at lent)) (span_at at lent)) 0 mid
@@ -161,8 +161,8 @@ was_clear words mid level at lent deep low below put clear =
     same (count_of_number (buddy_of (number_of (span_at at level))) (beside (holder_of level (span_at at lent)) (span_at at lent)))
     _ _ (part_apart level at lent (buddy_of (number_of (span_at at level))) deep low below near) (put _) clear
   where
-    place : IsPlace level (at - at % size_of level)
-    place = holder_place level (span_at at lent) (omega (arith, deep, low)) below
+    of_root : IsRootPart level (at - at % size_of level)
+    of_root = holder_part level (span_at at lent) (omega (arith, deep, low)) below
 
     even_row : (n p : ℕ) → n < 2 * p → buddy_of n < 2 * p
     even_row n p h = by_parity (n % 2 == 0) refl
@@ -175,7 +175,7 @@ was_clear words mid level at lent deep low below put clear =
     near =
         even_row (number_of (span_at at level)) (2 ^ level)
         (rw (number_of-holder level (span_at at lent) (omega (arith, deep, low)) below)
-        (number_below level (at - at % size_of level) place))
+        (number_below level (at - at % size_of level) of_root))
 
     same : (count old mid : ℕ) → count ≡ 0 → mid ≡ cond (nat_lt 0 count) 0 old → mid ≡ 0 → old ≡ 0
     same count old mid e put clear = grind (arith, nat_tests)
@@ -200,7 +200,7 @@ part_done words mid new level at lent number deep low below e may set cleared m 
     alone : (number_of leaf == m) ≡ true → count_of_number m (beside leaf (span_at at lent)) ≡ 0
     alone is =
         part_apart level at lent m deep low below
-        (small _ (number_of leaf) m is (number_below level leaf.start (holder_place level (span_at at lent) (omega (arith, deep, low)) below)))
+        (small _ (number_of leaf) m is (number_below level leaf.start (holder_part level (span_at at lent) (omega (arith, deep, low)) below)))
 
     by_case : (is : Bool) (old mid new here more : ℕ) → old < 2 → here ≡ cond is 1 0 → mid ≡ cond (nat_lt 0 more) 1 old
         → new ≡ cond is 0 mid → here ≤ old → old + more ≤ 1 + here → (is ≡ true → more ≡ 0) → new + here ≡ old + more

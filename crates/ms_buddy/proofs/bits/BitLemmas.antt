@@ -16,10 +16,10 @@ is_same_number a b e = grind (arith, nat_tests)
 is_other_number : (a b : ℕ) → (b ≡ a → ⊥) → (a == b) ≡ false
 is_other_number a b e = grind (arith, nat_tests)
 
--- A word is changed at the place of a number alone.
+-- A word is changed at the position of a number alone.
 pub changed : (words : List ℕ) (number other word bit : ℕ) → number / 64 < length words
     → bit_at word (number % 64) ≡ bit
-    → ((place : ℕ) → place < 64 → place ≢ number % 64 → bit_at word place ≡ bit_at (get_or words (number / 64) 0) place)
+    → ((position : ℕ) → position < 64 → position ≢ number % 64 → bit_at word position ≡ bit_at (get_or words (number / 64) 0) position)
     → bit_of (slice_set words (number / 64) word) other ≡ cond (number == other) bit (bit_of words other)
 changed words number other word bit within here there = elim (cases_eq (other / 64) (number / 64)) [
   | inl row ↦
@@ -57,15 +57,15 @@ zero_word (suc n) (suc at) = zero_word n at
 pub no_bit : (n number : ℕ) → bit_of (replicate n 0) number ≡ 0
 no_bit n number = ap (λ w. bit_at w (number % 64)) (zero_word n (number / 64)) ∙ bit_at-zero (number % 64)
 
--- The bits of a word moved down are those from a place on.
-moved : (word from place : ℕ) → from ≤ place → bit_at word place ≡ bit_at (word / 2 ^ from) (place - from)
-moved word from place h =
-    let there : place ≡ from + (place - from) = omega arith in
-    ap (bit_at word) there ∙ sym (ap (λ x. x % 2) (shr-shr word from (place - from)))
+-- The bits of a word moved down are those from a position on.
+moved : (word from position : ℕ) → from ≤ position → bit_at word position ≡ bit_at (word / 2 ^ from) (position - from)
+moved word from position h =
+    let there : position ≡ from + (position - from) = omega arith in
+    ap (bit_at word) there ∙ sym (ap (λ x. x % 2) (shr-shr word from (position - from)))
 
-pub no_later_bit : (word from place : ℕ) → word / 2 ^ from ≡ 0 → from ≤ place → bit_at word place ≡ 0
-no_later_bit word from place none h =
-    moved word from place h ∙ ap (λ w. bit_at w (place - from)) none ∙ bit_at-zero (place - from)
+pub no_later_bit : (word from position : ℕ) → word / 2 ^ from ≡ 0 → from ≤ position → bit_at word position ≡ 0
+no_later_bit word from position none h =
+    moved word from position h ∙ ap (λ w. bit_at w (position - from)) none ∙ bit_at-zero (position - from)
 
 pub lowest_later_bit : (word from : ℕ) → 0 < word / 2 ^ from → word < 2 ^ 64
     → IsLowestBit word from (from + trailing_zeros w64 (word / 2 ^ from))
@@ -76,7 +76,7 @@ lowest_later_bit word from some fits = record {
     | inr over ↦ absurd (omega (arith, one, bit_at_above word 64 (from + trailing_zeros w64 (word / 2 ^ from)) fits over))
   ];
   set = one;
-  below = λ place low under. moved word from place low ∙ lies.2 (place - from) (omega (arith, low, under));
+  below = λ position low under. moved word from position low ∙ lies.2 (position - from) (omega (arith, low, under));
 }
   where
     lies : (trailing_zeros w64 (word / 2 ^ from) < 64)
@@ -95,9 +95,9 @@ bit_in_row : (words : List ℕ) (row number : ℕ) → number / 64 ≡ row
     → bit_of words number ≡ bit_at (get_or words row 0) (number % 64)
 bit_in_row words row number e = ap (λ at. bit_at (get_or words at 0) (number % 64)) e
 
--- A word has no bit from a place on.
+-- A word has no bit from a position on.
 pub none_later : (words : List ℕ) (from at : ℕ)
-    → ((place : ℕ) → at % 64 ≤ place → place < 64 → bit_at (get_or words (at / 64) 0) place ≡ 0)
+    → ((position : ℕ) → at % 64 ≤ position → position < 64 → bit_at (get_or words (at / 64) 0) position ≡ 0)
     → NoneSet words from at → NoneSet words from ((at / 64 + 1) * 64)
 none_later words from at none before number low high = elim (cases_lt number at) [
   | inl under ↦ before number low under
@@ -106,15 +106,15 @@ none_later words from at none before number low high = elim (cases_lt number at)
       ∙ none (number % 64) (omega (arith, past, high)) (omega arith)
 ]
 
--- The lowest number that has its bit set, where the word that was reached has one from a place on.
-pub lowest_later : (words : List ℕ) (from end at place : ℕ) → from ≤ at
-    → IsLowestBit (get_or words (at / 64) 0) (at % 64) place
-    → NoneSet words from at → at / 64 * 64 + place < end → IsNextSet words from end (at / 64 * 64 + place)
-lowest_later words from end at place low lowest before below = record {
+-- The lowest number that has its bit set, where the word that was reached has one from a position on.
+pub lowest_later : (words : List ℕ) (from end at position : ℕ) → from ≤ at
+    → IsLowestBit (get_or words (at / 64) 0) (at % 64) position
+    → NoneSet words from at → at / 64 * 64 + position < end → IsNextSet words from end (at / 64 * 64 + position)
+lowest_later words from end at position low lowest before below = record {
   low = omega (arith, low, lowest.low);
   high = below;
   set =
-      bit_in_row words (at / 64) (at / 64 * 64 + place) (omega (arith, lowest.high))
+      bit_in_row words (at / 64) (at / 64 * 64 + position) (omega (arith, lowest.high))
       ∙ ap (bit_at (get_or words (at / 64) 0)) (omega (arith, lowest.high)) ∙ lowest.set;
   below = λ number least under. elim (cases_lt number at) [
     | inl passed ↦ before number least passed
@@ -157,7 +157,7 @@ row_changed words filled row word bit new within are is told other = elim (cases
 
 -- Words that have no bit are passed over.
 pub none_passed : (words filled : List ℕ) (from at row : ℕ) → IsFilled words filled
-    → ((place : ℕ) → at % 64 ≤ place → place < 64 → bit_at (get_or words (at / 64) 0) place ≡ 0)
+    → ((position : ℕ) → at % 64 ≤ position → position < 64 → bit_at (get_or words (at / 64) 0) position ≡ 0)
     → ((other : ℕ) → at / 64 + 1 ≤ other → other < row → bit_of filled other ≡ 0)
     → NoneSet words from at → NoneSet words from (row * 64)
 none_passed words filled from at row are none passed before number low high = elim (cases_lt number ((at / 64 + 1) * 64)) [

@@ -10,30 +10,30 @@ use Rattle.ms_base.specs.declared.span.Span.{Span}
 use Rattle.ms_base.specs.Level.{size_of, highest_level}
 use Rattle.ms_buddy.specs.Counts.{buddy_of, holder_of, number_of}
 use Rattle.ms_buddy.specs.Leaves.{span_at}
-use Rattle.ms_buddy.specs.Tree.{IsPlace}
-use Rattle.ms_buddy.proofs.TreeHalvesLemmas.{lower_place, size_of-halves, size_of-some, upper_place}
-use Rattle.ms_buddy.proofs.bits.NumberLemmas.{holder_place, number_words}
+use Rattle.ms_buddy.specs.Tree.{IsRootPart}
+use Rattle.ms_buddy.proofs.TreeHalvesLemmas.{lower_part, size_of-halves, size_of-some, upper_part}
+use Rattle.ms_buddy.proofs.bits.NumberLemmas.{holder_part, number_words}
 
 -- An offset lies past the last multiple of a size by less than the size.
 pub past : (a w : ℕ) → 0 < w → a < a - a % w + w
 past a w some = omega (arith, mod-lt a some)
 
 -- The part of a level that holds an offset has the number that is told by the offset.
-number_within : (level start at : ℕ) → IsPlace level start → start ≤ at → at < start + size_of level
+number_within : (level start at : ℕ) → IsRootPart level start → start ≤ at → at < start + size_of level
     → number_of (span_at at level) ≡ number_of (span_at start level)
 unfolding number_of
-number_within level start at place from below =
+number_within level start at of_root from below =
     ap (λ (n : ℕ). n / size_of level) there
     ∙ div-mul-add (number_of (span_at start level)) (size_of level) (at - start) (omega (arith, from, below))
   where
     there : 524288 + at ≡ number_of (span_at start level) * size_of level + (at - start)
-    there = omega (arith, number_words level start place, from)
+    there = omega (arith, number_words level start of_root, from)
 
 -- So the number is that of the part of a level that holds a part.
 pub number_of-holder : (level : ℕ) (part : Span) → level ≤ highest_level → part.start < 524288
     → number_of (span_at part.start level) ≡ number_of (holder_of level part)
 number_of-holder level part low below =
-    number_within level (part.start - part.start % size_of level) part.start (holder_place level part low below)
+    number_within level (part.start - part.start % size_of level) part.start (holder_part level part low below)
     (omega arith) (past part.start (size_of level) (size_of-some level))
 
 cancel : (a b w : ℕ) → 0 < w → a * w ≡ b * w → a ≡ b
@@ -41,23 +41,23 @@ cancel a b w some e =
     omega (arith, le_of_mul-le-mul_right {m = a} {n = b} {k = w} (omega (arith, e)) some, le_of_mul-le-mul_right {m = b} {n = a} {k = w} (omega (arith, e)) some)
 
 -- The halves of a part have twice its number, and one more.
-lower_number : (level start : ℕ) → IsPlace level start → level < highest_level
+lower_number : (level start : ℕ) → IsRootPart level start → level < highest_level
     → number_of (span_at start (level + 1)) ≡ 2 * number_of (span_at start level)
-lower_number level start place low =
+lower_number level start of_root low =
     cancel _ _ (size_of (level + 1)) (size_of-some (level + 1)) (omega (
       arith,
-      number_words (level + 1) start (lower_place level start place low),
-      number_words level start place,
+      number_words (level + 1) start (lower_part level start of_root low),
+      number_words level start of_root,
       ap (λ (n : ℕ). number_of (span_at start level) * n) (size_of-halves level low),
     ))
 
-upper_number : (level start : ℕ) → IsPlace level start → level < highest_level
+upper_number : (level start : ℕ) → IsRootPart level start → level < highest_level
     → number_of (span_at (start + size_of (level + 1)) (level + 1)) ≡ 2 * number_of (span_at start level) + 1
-upper_number level start place low =
+upper_number level start of_root low =
     cancel _ _ (size_of (level + 1)) (size_of-some (level + 1)) (omega (
       arith,
-      number_words (level + 1) (start + size_of (level + 1)) (upper_place level start (start + size_of (level + 1)) place low refl),
-      number_words level start place,
+      number_words (level + 1) (start + size_of (level + 1)) (upper_part level start (start + size_of (level + 1)) of_root low refl),
+      number_words level start of_root,
       ap (λ (n : ℕ). number_of (span_at start level) * n) (size_of-halves level low),
     ))
 
@@ -74,19 +74,19 @@ buddy_of-odd n = rw (odd n) (omega arith)
     odd : (n : ℕ) → ((2 * n + 1) % 2 == 0) ≡ false
     odd n = grind (arith, nat_tests)
 
-pub upper_is_buddy : (level start at : ℕ) → IsPlace level start → level < highest_level → start ≤ at
+pub upper_is_buddy : (level start at : ℕ) → IsRootPart level start → level < highest_level → start ≤ at
     → at < start + size_of (level + 1)
     → buddy_of (number_of (span_at at (level + 1))) ≡ number_of (span_at (start + size_of (level + 1)) (level + 1))
-upper_is_buddy level start at place low from below =
-    ap buddy_of (number_within (level + 1) start at (lower_place level start place low) from below
-    ∙ lower_number level start place low) ∙ buddy_of-even (number_of (span_at start level))
-    ∙ sym (upper_number level start place low)
+upper_is_buddy level start at of_root low from below =
+    ap buddy_of (number_within (level + 1) start at (lower_part level start of_root low) from below
+    ∙ lower_number level start of_root low) ∙ buddy_of-even (number_of (span_at start level))
+    ∙ sym (upper_number level start of_root low)
 
-pub lower_is_buddy : (level start at : ℕ) → IsPlace level start → level < highest_level
+pub lower_is_buddy : (level start at : ℕ) → IsRootPart level start → level < highest_level
     → start + size_of (level + 1) ≤ at → at < start + size_of level
     → buddy_of (number_of (span_at at (level + 1))) ≡ number_of (span_at start (level + 1))
-lower_is_buddy level start at place low above below =
+lower_is_buddy level start at of_root low above below =
     ap buddy_of (number_within (level + 1) (start + size_of (level + 1)) at
-    (upper_place level start (start + size_of (level + 1)) place low refl) above
-    (omega (arith, below, size_of-halves level low)) ∙ upper_number level start place low)
-    ∙ buddy_of-odd (number_of (span_at start level)) ∙ sym (lower_number level start place low)
+    (upper_part level start (start + size_of (level + 1)) of_root low refl) above
+    (omega (arith, below, size_of-halves level low)) ∙ upper_number level start of_root low)
+    ∙ buddy_of-odd (number_of (span_at start level)) ∙ sym (lower_number level start of_root low)

@@ -14,27 +14,27 @@ use Rattle.ms_buddy.specs.Tree.{Free, Lent, Split}
 use Rattle.ms_buddy.specs.Counts.{IsParted, beside, count_of_number, holder_of, number_of, one_at}
 use Rattle.ms_buddy.specs.FreeBits.{AreFreeBits, IsMoved, MayJoin, MayPart, bit_of}
 use Rattle.ms_buddy.specs.Leaves.{is_lent, root}
-use Rattle.ms_buddy.specs.Tree.{IsPlace, IsTree, free_in, lent_in}
-use Rattle.ms_buddy.proofs.TreeHalvesLemmas.{lower_place, size_of-some, upper_place}
+use Rattle.ms_buddy.specs.Tree.{IsRootPart, IsTree, free_in, lent_in}
+use Rattle.ms_buddy.proofs.TreeHalvesLemmas.{lower_part, size_of-some, upper_part}
 use Rattle.ms_buddy.proofs.WalkLemmas.{LiesIn, all_joined, free_lies_in}
-use Rattle.ms_buddy.proofs.bits.NumberLemmas.{holder_place, number_below, same_number}
+use Rattle.ms_buddy.proofs.bits.NumberLemmas.{holder_part, number_below, same_number}
 use Rattle.ms_buddy.proofs.counts.CountLemmas.{number-append, number-cons, number-none, number-one}
 use Rattle.ms_buddy.proofs.bits.BesideLemmas.{clear_one, no_halves, none_is_whole}
 use Rattle.ms_buddy.proofs.SplitLemmas.{lent_part_lies_in}
 
 -- The free leaves of a node are parts of the root.
-abbrev pub IsSpanPlace : Span → Type 0
-IsSpanPlace part = IsPlace part.level part.start
+abbrev pub IsRootSpan : Span → Type 0
+IsRootSpan part = IsRootPart part.level part.start
 
-pub free_places : (level start : ℕ) (node : Node) → IsTree level node → IsPlace level start
-    → AllByRecursion IsSpanPlace (free_in level start node)
-free_places level start Free tree place = (place, tt)
-free_places level start (Lent owner front) tree place = tt
-free_places level start (Split lower upper) tree place =
-    all_joined IsSpanPlace (free_in (level + 1) start lower) (free_in (level + 1) (start + size_of (level + 1)) upper)
-    (free_places (level + 1) start lower tree.2 (lower_place level start place tree.0))
-    (free_places (level + 1) (start + size_of (level + 1)) upper tree.3
-    (upper_place level start (start + size_of (level + 1)) place tree.0 refl))
+pub free_spans : (level start : ℕ) (node : Node) → IsTree level node → IsRootPart level start
+    → AllByRecursion IsRootSpan (free_in level start node)
+free_spans level start Free tree of_root = (of_root, tt)
+free_spans level start (Lent owner front) tree of_root = tt
+free_spans level start (Split lower upper) tree of_root =
+    all_joined IsRootSpan (free_in (level + 1) start lower) (free_in (level + 1) (start + size_of (level + 1)) upper)
+    (free_spans (level + 1) start lower tree.2 (lower_part level start of_root tree.0))
+    (free_spans (level + 1) (start + size_of (level + 1)) upper tree.3
+    (upper_part level start (start + size_of (level + 1)) of_root tree.0 refl))
 
 pub all_both : {X : Type 0} (P Q : X → Type 0) (xs : List X) → AllByRecursion P xs → AllByRecursion Q xs
     → AllByRecursion (λ x. P x × Q x) xs
@@ -60,29 +60,29 @@ has_part number P (part ∷ parts) all some = elim (number_of part == number) as
 one_or_none : (a b : ℕ) → one_at a b ≤ 1
 one_or_none a b = grind (arith, nat_tests)
 
-abbrev IsPlacedIn : ℕ → ℕ → Span → Type 0
-IsPlacedIn low high part = IsSpanPlace part × LiesIn low high part
+abbrev IsRootSpanIn : ℕ → ℕ → Span → Type 0
+IsRootSpanIn low high part = IsRootSpan part × LiesIn low high part
 
-placed : (level start : ℕ) (node : Node) → IsTree level node → IsPlace level start
-    → AllByRecursion (IsPlacedIn start (start + size_of level)) (free_in level start node)
-placed level start node tree place =
-    all_both IsSpanPlace (LiesIn start (start + size_of level)) (free_in level start node)
-    (free_places level start node tree place) (free_lies_in level start node tree)
+lie_in_root : (level start : ℕ) (node : Node) → IsTree level node → IsRootPart level start
+    → AllByRecursion (IsRootSpanIn start (start + size_of level)) (free_in level start node)
+lie_in_root level start node tree of_root =
+    all_both IsRootSpan (LiesIn start (start + size_of level)) (free_in level start node)
+    (free_spans level start node tree of_root) (free_lies_in level start node tree)
 
 -- No two have one number.
-pub few_of_number : (level start number : ℕ) (node : Node) → IsTree level node → IsPlace level start
+pub few_of_number : (level start number : ℕ) (node : Node) → IsTree level node → IsRootPart level start
     → count_of_number number (free_in level start node) ≤ 1
-few_of_number level start number Free tree place =
+few_of_number level start number Free tree of_root =
     omega (
       arith,
       number-one number (record { start = start; level = level }),
       one_or_none (number_of (record { start = start; level = level })) number,
     )
-few_of_number level start number (Lent owner front) tree place = omega (arith, number-none number)
-few_of_number level start number (Split lower upper) tree place =
-    let low = few_of_number (level + 1) start number lower tree.2 (lower_place level start place tree.0) in
+few_of_number level start number (Lent owner front) tree of_root = omega (arith, number-none number)
+few_of_number level start number (Split lower upper) tree of_root =
+    let low = few_of_number (level + 1) start number lower tree.2 (lower_part level start of_root tree.0) in
     let high = few_of_number (level + 1) (start + size_of (level + 1)) number upper tree.3
-    (upper_place level start (start + size_of (level + 1)) place tree.0 refl) in
+    (upper_part level start (start + size_of (level + 1)) of_root tree.0 refl) in
     let both = number-append number (free_in (level + 1) start lower)
     (free_in (level + 1) (start + size_of (level + 1)) upper) in
     elim (cases_lt 0 (count_of_number number (free_in (level + 1) start lower))) [
@@ -90,17 +90,17 @@ few_of_number level start number (Split lower upper) tree place =
       | inl some ↦ elim (cases_lt 0 (count_of_number number (free_in (level + 1) (start + size_of (level + 1)) upper))) [
         | inr none ↦ omega (arith, low, both, none)
         | inl too ↦ absurd (apart
-            (has_part number (IsPlacedIn start (start + size_of (level + 1))) (free_in (level + 1) start lower)
-            (placed (level + 1) start lower tree.2 (lower_place level start place tree.0)) some)
+            (has_part number (IsRootSpanIn start (start + size_of (level + 1))) (free_in (level + 1) start lower)
+            (lie_in_root (level + 1) start lower tree.2 (lower_part level start of_root tree.0)) some)
             (has_part number
-            (IsPlacedIn (start + size_of (level + 1)) (start + size_of (level + 1) + size_of (level + 1)))
+            (IsRootSpanIn (start + size_of (level + 1)) (start + size_of (level + 1) + size_of (level + 1)))
             (free_in (level + 1) (start + size_of (level + 1)) upper)
-            (placed (level + 1) (start + size_of (level + 1)) upper tree.3
-            (upper_place level start (start + size_of (level + 1)) place tree.0 refl)) too))
+            (lie_in_root (level + 1) (start + size_of (level + 1)) upper tree.3
+            (upper_part level start (start + size_of (level + 1)) of_root tree.0 refl)) too))
       ]
     ]
   where
-    apart : {low middle high : ℕ} → HasPart number (IsPlacedIn low middle) → HasPart number (IsPlacedIn middle high) → ⊥
+    apart : {low middle high : ℕ} → HasPart number (IsRootSpanIn low middle) → HasPart number (IsRootSpanIn middle high) → ⊥
     apart one other = omega (
       arith,
       one.holds.1.to,
@@ -110,13 +110,13 @@ few_of_number level start number (Split lower upper) tree place =
     )
 
 -- The number of a leaf that is parted is that of no half beside the way.
-pub leaf_apart : (leaf part : Span) (number : ℕ) → IsSpanPlace leaf → leaf.level ≤ part.level → part.level ≤ highest_level
+pub leaf_apart : (leaf part : Span) (number : ℕ) → IsRootSpan leaf → leaf.level ≤ part.level → part.level ≤ highest_level
     → 0 < count_of_number number (leaf ∷ []) → count_of_number number (beside leaf part) ≡ 0
-leaf_apart leaf part number place order low some =
-    none_is_whole (part.level - leaf.level) leaf.level leaf.start part.start number (omega (arith, order, low)) place
+leaf_apart leaf part number of_root order low some =
+    none_is_whole (part.level - leaf.level) leaf.level leaf.start part.start number (omega (arith, order, low)) of_root
     (omega (
       arith,
-      number_below leaf.level leaf.start place,
+      number_below leaf.level leaf.start of_root,
       is number (number_of leaf) (omega (arith, some, number-one number leaf)),
       pow-add 2 leaf.level 1,
     ))
@@ -125,36 +125,36 @@ leaf_apart leaf part number place order low some =
     is a b h = grind (arith, nat_tests)
 
 -- The bits are such that a leaf may be parted, or joined.
-may_part : (words : List ℕ) (before after : List Span) (leaf part : Span) → IsSpanPlace leaf
+may_part : (words : List ℕ) (before after : List Span) (leaf part : Span) → IsRootSpan leaf
     → AreFreeBits words before → IsParted before leaf part after → ((number : ℕ) → count_of_number number after ≤ 1)
     → MayPart words leaf part
-may_part words before after leaf part place are parted few = record {
+may_part words before after leaf part of_root are parted few = record {
   gone = λ number. elim (cases_lt 0 (count_of_number number (leaf ∷ []))) [
     | inr none ↦ omega (arith, none)
     | inl some ↦ omega (
       arith,
       are number,
-      parted.places number,
-      leaf_apart leaf part number place parted.order parted.low some,
+      parted.numbered number,
+      leaf_apart leaf part number of_root parted.order parted.low some,
     )
   ];
-  come = λ number. omega (arith, are number, parted.places number, few number);
+  come = λ number. omega (arith, are number, parted.numbered number, few number);
 }
 
-may_join : (words : List ℕ) (before after : List Span) (leaf part : Span) → IsSpanPlace leaf
+may_join : (words : List ℕ) (before after : List Span) (leaf part : Span) → IsRootSpan leaf
     → AreFreeBits words before → IsParted after leaf part before → ((number : ℕ) → count_of_number number after ≤ 1)
     → MayJoin words leaf part
-may_join words before after leaf part place are parted few = record {
+may_join words before after leaf part of_root are parted few = record {
   gone = λ number. elim (cases_lt 0 (count_of_number number (leaf ∷ []))) [
-    | inr none ↦ omega (arith, are number, parted.places number, none)
-    | inl some ↦ omega (arith, leaf_apart leaf part number place parted.order parted.low some)
+    | inr none ↦ omega (arith, are number, parted.numbered number, none)
+    | inl some ↦ omega (arith, leaf_apart leaf part number of_root parted.order parted.low some)
   ];
-  come = λ number. omega (arith, are number, parted.places number, few number);
+  come = λ number. omega (arith, are number, parted.numbered number, few number);
 }
 
 -- The same of a tree, for the part of a level that holds a part.
-pub root_place : IsPlace 0 0
-root_place = record { level_fits = omega arith; aligned = refl; in_root = omega arith }
+pub root_part : IsRootPart 0 0
+root_part = record { level_fits = omega arith; aligned = refl; in_root = omega arith }
 
 pub tree_may_part : (words : List ℕ) (before after : Node) (free : ℕ) (part : Span) → IsTree 0 after
     → AreFreeBits words (free_in 0 0 before) → part.start < 524288
@@ -162,8 +162,8 @@ pub tree_may_part : (words : List ℕ) (before after : Node) (free : ℕ) (part 
     → MayPart words (holder_of free part) part
 tree_may_part words before after free part tree are below parted =
     may_part words (free_in 0 0 before) (free_in 0 0 after) (holder_of free part) part
-    (holder_place free part (omega (arith, parted.order, parted.low)) below) are parted
-    (λ number. few_of_number 0 0 number after tree root_place)
+    (holder_part free part (omega (arith, parted.order, parted.low)) below) are parted
+    (λ number. few_of_number 0 0 number after tree root_part)
 
 pub tree_may_join : (words : List ℕ) (before after : Node) (free : ℕ) (part : Span) → IsTree 0 after
     → AreFreeBits words (free_in 0 0 before) → part.start < 524288
@@ -171,8 +171,8 @@ pub tree_may_join : (words : List ℕ) (before after : Node) (free : ℕ) (part 
     → MayJoin words (holder_of free part) part
 tree_may_join words before after free part tree are below parted =
     may_join words (free_in 0 0 before) (free_in 0 0 after) (holder_of free part) part
-    (holder_place free part (omega (arith, parted.order, parted.low)) below) are parted
-    (λ number. few_of_number 0 0 number after tree root_place)
+    (holder_part free part (omega (arith, parted.order, parted.low)) below) are parted
+    (λ number. few_of_number 0 0 number after tree root_part)
 
 -- A part that is lent in a tree starts in the root.
 pub starts_in_root : (part : Span) (node : Node) → IsTree 0 node
@@ -185,7 +185,7 @@ starts_in_root part node tree lent =
 pub joined_bits : (old new : List ℕ) (before after : List Span) (leaf part : Span) → AreFreeBits old before
     → IsParted after leaf part before → IsMoved new (leaf ∷ []) (beside leaf part) old → AreFreeBits new after
 joined_bits old new before after leaf part are parted moved number =
-    omega (arith, are number, parted.places number, moved number)
+    omega (arith, are number, parted.numbered number, moved number)
 
 -- A leader was enlarged, and its follower is free no longer.
 pub enlarged_bits : (old new : List ℕ) (before after : List Span) (follower : Span) (number : ℕ)
@@ -195,9 +195,9 @@ enlarged_bits old new before after follower number e are parted cleared m =
     let none = no_halves (follower.level - follower.level) follower.level follower.start follower.start m (omega arith) in
     omega (
       arith,
-      clear_one old new follower [] m (rw e at cleared) (omega (arith, are m, parted.places m, none)),
+      clear_one old new follower [] m (rw e at cleared) (omega (arith, are m, parted.numbered m, none)),
       are m,
-      parted.places m,
+      parted.numbered m,
       none,
       number-one m follower,
     )

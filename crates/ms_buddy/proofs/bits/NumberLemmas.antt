@@ -9,7 +9,7 @@ use Rattle.ms_base.specs.Level.{size_of, highest_level}
 use Rattle.ms_base.proofs.free.HalvesLemmas.{size_falls}
 use Rattle.ms_buddy.specs.Counts.{holder_of, number_of}
 use Rattle.ms_buddy.specs.Leaves.{span_at}
-use Rattle.ms_buddy.specs.Tree.{IsPlace}
+use Rattle.ms_buddy.specs.Tree.{IsRootPart}
 use Rattle.ms_buddy.proofs.TreeHalvesLemmas.{size_of-halves, size_of-some}
 
 -- A root has so many words of each level's size.
@@ -38,9 +38,9 @@ holder_fits level at h below = omega (
     next : {a b : ℕ} → a < b → a + 1 ≤ b
     next h = omega arith
 
-pub holder_place : (level : ℕ) (part : Span) → level ≤ highest_level → part.start < 524288
-    → IsPlace level (holder_of level part).start
-holder_place level part h below = record {
+pub holder_part : (level : ℕ) (part : Span) → level ≤ highest_level → part.start < 524288
+    → IsRootPart level (holder_of level part).start
+holder_part level part h below = record {
   level_fits = h;
   aligned =
       ap (λ (n : ℕ). n % size_of level) (multiple part.start (size_of level))
@@ -97,30 +97,30 @@ and_above P level most here past other above low = elim (cases_lt level other) [
 ]
 
 -- A part's number times its size is where it starts, past the words of a root.
-pub number_words : (level start : ℕ) → IsPlace level start
+pub number_words : (level start : ℕ) → IsRootPart level start
     → number_of (span_at start level) * size_of level ≡ 524288 + start
 unfolding number_of
-number_words level start place =
+number_words level start of_root =
     ap (λ (n : ℕ). n * size_of level) (div-eq_of_eq-mul_left (size_of-some level) parts) ∙ sym parts
   where
     parts : 524288 + start ≡ (2 ^ level + start / size_of level) * size_of level
-    parts = omega (arith, row_words level place.level_fits, div-add-mod' start (size_of level), place.aligned)
+    parts = omega (arith, row_words level of_root.level_fits, div-add-mod' start (size_of level), of_root.aligned)
 
 -- The numbers of a level stand in a row, from a power of two up to the next one.
-pub number_from : (level start : ℕ) → IsPlace level start → 2 ^ level ≤ number_of (span_at start level)
-number_from level start place =
-    le_of_mul-le-mul_right (omega (arith, row_words level place.level_fits, number_words level start place))
+pub number_from : (level start : ℕ) → IsRootPart level start → 2 ^ level ≤ number_of (span_at start level)
+number_from level start of_root =
+    le_of_mul-le-mul_right (omega (arith, row_words level of_root.level_fits, number_words level start of_root))
     (size_of-some level)
 
-pub number_below : (level start : ℕ) → IsPlace level start → number_of (span_at start level) < 2 * 2 ^ level
-number_below level start place = elim (cases_lt (number_of (span_at start level)) (2 * 2 ^ level)) [
+pub number_below : (level start : ℕ) → IsRootPart level start → number_of (span_at start level) < 2 * 2 ^ level
+number_below level start of_root = elim (cases_lt (number_of (span_at start level)) (2 * 2 ^ level)) [
   | inl below ↦ below
   | inr past ↦ absurd (omega (
     arith,
     mul-le-mul_right (size_of level) past,
-    row_words level place.level_fits,
-    number_words level start place,
-    place.in_root,
+    row_words level of_root.level_fits,
+    number_words level start of_root,
+    of_root.in_root,
     size_of-some level,
   ))
 ]
@@ -129,12 +129,12 @@ twice : (level : ℕ) → 2 ^ (level + 1) ≡ 2 * 2 ^ level
 twice level = pow-add 2 level 1 ∙ omega arith
 
 -- A number that is in the row of a level is that of a part of the level.
-pub level_of_row : (level start other : ℕ) → IsPlace level start → 2 ^ other ≤ number_of (span_at start level)
+pub level_of_row : (level start other : ℕ) → IsRootPart level start → 2 ^ other ≤ number_of (span_at start level)
     → number_of (span_at start level) < 2 * 2 ^ other → level ≡ other
-level_of_row level start other place from below = elim (cases_lt level other) [
+level_of_row level start other of_root from below = elim (cases_lt level other) [
   | inl less ↦ absurd (omega (
     arith,
-    number_below level start place,
+    number_below level start of_root,
     from,
     twice level,
     pow-le-pow_right {n = 2} (omega arith) {i = level + 1} {j = other} (omega arith),
@@ -142,7 +142,7 @@ level_of_row level start other place from below = elim (cases_lt level other) [
   | inr more ↦ elim (cases_lt other level) [
     | inl less ↦ absurd (omega (
       arith,
-      number_from level start place,
+      number_from level start of_root,
       below,
       twice other,
       pow-le-pow_right {n = 2} (omega arith) {i = other + 1} {j = level} (omega arith),
@@ -152,17 +152,17 @@ level_of_row level start other place from below = elim (cases_lt level other) [
 ]
 
 -- Parts with one number are one.
-pub same_number : (part other : Span) → IsPlace part.level part.start → IsPlace other.level other.start
+pub same_number : (part other : Span) → IsRootPart part.level part.start → IsRootPart other.level other.start
     → number_of part ≡ number_of other → (part.level ≡ other.level) × (part.start ≡ other.start)
-same_number part other place there e =
+same_number part other of_root there e =
     let level : part.level ≡ other.level =
-    level_of_row part.level part.start other.level place
+    level_of_row part.level part.start other.level of_root
     (omega (arith, e, number_from other.level other.start there))
     (omega (arith, e, number_below other.level other.start there)) in (
       level,
       omega (
         arith,
-        number_words part.level part.start place,
+        number_words part.level part.start of_root,
         number_words other.level other.start there,
         ap (λ (n : ℕ). number_of part * size_of n) level,
         ap (λ (n : ℕ). n * size_of other.level) e,
@@ -170,21 +170,21 @@ same_number part other place there e =
     )
 
 -- The first number of the parts of a level that start at an offset or past it.
-pub first_is_low : (level from start : ℕ) → IsPlace level start → from ≤ start
+pub first_is_low : (level from start : ℕ) → IsRootPart level start → from ≤ start
     → (524288 + from + (size_of level - 1)) / size_of level ≤ number_of (span_at start level)
-first_is_low level from start place h =
+first_is_low level from start of_root h =
     less (div_below (524288 + from + (size_of level - 1)) (size_of level) (number_of (span_at start level) + 1)
-    (size_of-some level) (omega (arith, number_words level start place, size_of-some level, h)))
+    (size_of-some level) (omega (arith, number_words level start of_root, size_of-some level, h)))
   where
     less : {a b : ℕ} → a < b + 1 → a ≤ b
     less h = omega arith
 
-pub first_is_past : (level from start : ℕ) → IsPlace level start
+pub first_is_past : (level from start : ℕ) → IsRootPart level start
     → (524288 + from + (size_of level - 1)) / size_of level ≤ number_of (span_at start level) → from ≤ start
-first_is_past level from start place h = omega (
+first_is_past level from start of_root h = omega (
   arith,
   mul-le-mul_right (size_of level) h,
-  number_words level start place,
+  number_words level start of_root,
   div-add-mod' (524288 + from + (size_of level - 1)) (size_of level),
   mod-lt (524288 + from + (size_of level - 1)) (size_of-some level),
   size_of-some level,

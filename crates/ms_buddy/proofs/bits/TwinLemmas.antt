@@ -12,8 +12,8 @@ use Rattle.ms_base.specs.Level.{size_of, highest_level}
 use Rattle.ms_buddy.specs.Counts.{IsParted, beside, buddy_of, count_of_number, holder_of, number_of, one_at}
 use Rattle.ms_buddy.specs.FreeBits.{AreFreeBits, bit_of}
 use Rattle.ms_buddy.specs.Leaves.{is_same, span_at}
-use Rattle.ms_buddy.specs.Tree.{Node, Free, Lent, Split, IsPlace, IsTree, free_in, is_free}
-use Rattle.ms_buddy.proofs.TreeHalvesLemmas.{holder_is, lower_place, size_of-halves, size_of-some, upper_place}
+use Rattle.ms_buddy.specs.Tree.{Node, Free, Lent, Split, IsRootPart, IsTree, free_in, is_free}
+use Rattle.ms_buddy.proofs.TreeHalvesLemmas.{holder_is, lower_part, size_of-halves, size_of-some, upper_part}
 use Rattle.ms_buddy.proofs.SplitLemmas.{at_split}
 use Rattle.ms_buddy.proofs.changes.CarveLemmas.{ends_in, lower_is_free, upper_is_free}
 use Rattle.ms_buddy.proofs.changes.EnlargeLemmas.{not_free_whole}
@@ -21,8 +21,8 @@ use Rattle.ms_buddy.proofs.changes.CarvedLemmas.{clash}
 use Rattle.ms_buddy.proofs.bits.BesideLemmas.{next_beside, none_is_whole}
 use Rattle.ms_buddy.proofs.bits.BuddyLemmas.{lower_is_buddy, past, upper_is_buddy}
 use Rattle.ms_buddy.proofs.bits.FreeBitLemmas.{listed}
-use Rattle.ms_buddy.proofs.bits.FreeNumberLemmas.{IsSpanPlace, free_places, leaf_apart, root_place}
-use Rattle.ms_buddy.proofs.bits.NumberLemmas.{holder_place, number_below}
+use Rattle.ms_buddy.proofs.bits.FreeNumberLemmas.{IsRootSpan, free_spans, leaf_apart, root_part}
+use Rattle.ms_buddy.proofs.bits.NumberLemmas.{holder_part, number_below}
 
 is_true : (b : Bool) → (b ≡ false → ⊥) → b ≡ true
 is_true true never = refl
@@ -32,21 +32,21 @@ both_true : (a b : Bool) → a ≡ true → b ≡ true → (a && b) ≡ true
 both_true a b e f = rw (e, f) refl
 
 -- No part of a tree has two free halves.
-pub no_twins : (level start : ℕ) (node : Node) (above at : ℕ) → IsTree level node → IsPlace level start
-    → level ≤ above → above < highest_level → IsPlace above at → start ≤ at → at < start + size_of level
+pub no_twins : (level start : ℕ) (node : Node) (above at : ℕ) → IsTree level node → IsRootPart level start
+    → level ≤ above → above < highest_level → IsRootPart above at → start ≤ at → at < start + size_of level
     → list_any (is_same (span_at at (above + 1))) (free_in level start node) ≡ true
     → list_any (is_same (span_at (at + size_of (above + 1)) (above + 1))) (free_in level start node) ≡ true → ⊥
-no_twins level start Free above at tree place deep low there from below one other =
+no_twins level start Free above at tree of_root deep low there from below one other =
     not_deeper level above (start == at) deep one
   where
     not_deeper : (level above : ℕ) (b : Bool) → level ≤ above → ((b && (level == above + 1)) || false) ≡ true → ⊥
     not_deeper level above b h e = grind (arith, nat_tests)
-no_twins level start (Lent owner front) above at tree place deep low there from below one other = absurd (cc)
-no_twins level start (Split lower upper) above at tree place deep low there from below one other =
+no_twins level start (Lent owner front) above at tree of_root deep low there from below one other = absurd (cc)
+no_twins level start (Split lower upper) above at tree of_root deep low there from below one other =
     let s = at_split level start lower upper tree in
     elim (cases_eq above level) [
       | inl same ↦
-          let here : at ≡ start = starts level start at place (subst (λ (n : ℕ). IsPlace n at) same there) from below in
+          let here : at ≡ start = starts level start at of_root (subst (λ (n : ℕ). IsRootPart n at) same there) from below in
           clash (is_free lower && is_free upper)
           (both_true (is_free lower) (is_free upper)
           (is_true (is_free lower) (λ split. clash _ (sym (lower_is_free (span_at at (above + 1)) level start _ lower upper
@@ -63,13 +63,13 @@ no_twins level start (Split lower upper) above at tree place deep low there from
           (not_free_whole (level + 1) (start + size_of (level + 1)) upper split))))))
           s.one
       | inr differ ↦ elim (cases_lt at (start + size_of (level + 1))) [
-        | inl under ↦ no_twins (level + 1) start lower above at tree.2 (lower_place level start place s.low)
+        | inl under ↦ no_twins (level + 1) start lower above at tree.2 (lower_part level start of_root s.low)
             (omega (arith, deep, differ)) low there from under
             (sym (lower_is_free (span_at at (above + 1)) level start _ lower upper s.halves under) ∙ one)
             (sym (lower_is_free (span_at (at + size_of (above + 1)) (above + 1)) level start _ lower upper s.halves
-            (within level start above at place s.low (omega (arith, deep, differ)) low there from under)) ∙ other)
+            (within level start above at of_root s.low (omega (arith, deep, differ)) low there from under)) ∙ other)
         | inr over ↦ no_twins (level + 1) (start + size_of (level + 1)) upper above at tree.3
-            (upper_place level start _ place s.low refl) (omega (arith, deep, differ)) low there over
+            (upper_part level start _ of_root s.low refl) (omega (arith, deep, differ)) low there over
             (omega (arith, below, size_of-halves level s.low))
             (sym (upper_is_free (span_at at (above + 1)) level start _ lower upper s.halves over) ∙ one)
             (sym (upper_is_free (span_at (at + size_of (above + 1)) (above + 1)) level start _ lower upper s.halves
@@ -77,16 +77,16 @@ no_twins level start (Split lower upper) above at tree place deep low there from
       ]
     ]
   where
-    starts : (level start at : ℕ) → IsPlace level start → IsPlace level at → start ≤ at → at < start + size_of level
+    starts : (level start at : ℕ) → IsRootPart level start → IsRootPart level at → start ≤ at → at < start + size_of level
         → at ≡ start
-    starts level start at place there from below =
-        omega (arith, there.aligned, ap (λ (part : Span). part.start) (holder_is level start (span_at at level) place from below))
+    starts level start at of_root there from below =
+        omega (arith, there.aligned, ap (λ (part : Span). part.start) (holder_is level start (span_at at level) of_root from below))
 
-    within : (level start above at : ℕ) → IsPlace level start → level < highest_level → level + 1 ≤ above
-        → above < highest_level → IsPlace above at → start ≤ at → at < start + size_of (level + 1)
+    within : (level start above at : ℕ) → IsRootPart level start → level < highest_level → level + 1 ≤ above
+        → above < highest_level → IsRootPart above at → start ≤ at → at < start + size_of (level + 1)
         → at + size_of (above + 1) < start + size_of (level + 1)
-    within level start above at place low deep less there from under =
-        let half = lower_place level start place low in
+    within level start above at of_root low deep less there from under =
+        let half = lower_part level start of_root low in
         omega (
           arith,
           ends_in (span_at at above) (level + 1) start (there.level_fits, there.aligned) (half.level_fits, half.aligned) deep
@@ -140,7 +140,7 @@ pub none_beside_it : (free number : ℕ) (part : Span) → free ≤ part.level �
     → number < 2 * 2 ^ free → count_of_number number (beside (holder_of free part) part) ≡ 0
 none_beside_it free number part order low below small =
     none_is_whole (part.level - free) free (part.start - part.start % size_of free) part.start number
-    (omega (arith, order, low)) (holder_place free part (omega (arith, order, low)) below)
+    (omega (arith, order, low)) (holder_part free part (omega (arith, order, low)) below)
     (omega (arith, small, pow-add 2 free 1))
 
 -- The part merges as far as its bits tell: no less far,
@@ -151,9 +151,9 @@ not_low words before after part free merge m less = elim (cases_lt 0 (count_of_n
     arith,
     is,
     leaf_apart (holder_of free part) part number
-        (holder_place free part (omega (arith, m.parted.order, m.parted.low)) m.in_root) m.parted.order m.parted.low some,
+        (holder_part free part (omega (arith, m.parted.order, m.parted.low)) m.in_root) m.parted.order m.parted.low some,
   )
-  | inr none ↦ omega (arith, is, none, m.parted.places number, m.marked number, m.apart (omega (arith, less)))
+  | inr none ↦ omega (arith, is, none, m.parted.numbered number, m.marked number, m.apart (omega (arith, less)))
 ]
   where
     number : ℕ
@@ -166,20 +166,20 @@ not_low words before after part free merge m less = elim (cases_lt 0 (count_of_n
 
 -- and no further.
 listed_after : (words : List ℕ) (before after : Node) (part twin : Span) (above merge : ℕ)
-    → Merges words before after part (above + 1) merge → merge < above + 1 → IsSpanPlace twin → twin.level ≡ above + 1
+    → Merges words before after part (above + 1) merge → merge < above + 1 → IsRootSpan twin → twin.level ≡ above + 1
     → buddy_of (number_of (span_at part.start (above + 1))) ≡ number_of twin
     → list_any (is_same twin) (free_in 0 0 after) ≡ true
-listed_after words before after part twin above merge m more place level buddy =
-    sym (listed twin (free_in 0 0 after) place (free_places 0 0 after m.tree root_place))
+listed_after words before after part twin above merge m more of_root level buddy =
+    sym (listed twin (free_in 0 0 after) of_root (free_spans 0 0 after m.tree root_part))
     ∙ some (count_of_number (number_of twin) (free_in 0 0 after))
     (omega (
       arith,
-      m.parted.places (number_of twin),
+      m.parted.numbered (number_of twin),
       m.marked (number_of twin),
       ap (λ (n : ℕ). bit_of words n) buddy,
       m.merged (above + 1) more m.parted.order,
       none_beside_it (above + 1) (number_of twin) part m.parted.order m.parted.low m.in_root
-          (omega (arith, number_below twin.level twin.start place, ap (λ (n : ℕ). 2 ^ n) level)),
+          (omega (arith, number_below twin.level twin.start of_root, ap (λ (n : ℕ). 2 ^ n) level)),
     ))
   where
     some : (n : ℕ) → 0 < n → nat_lt 0 n ≡ true
@@ -188,16 +188,16 @@ listed_after words before after part twin above merge m more place level buddy =
 not_high : (words : List ℕ) (before after : Node) (part : Span) (above merge : ℕ)
     → Merges words before after part (above + 1) merge → merge < above + 1 → ⊥
 not_high words before after part above merge m more = elim (cases_lt part.start (start + size_of (above + 1))) [
-  | inl under ↦ no_twins 0 0 after above start m.tree root_place (omega arith) low place (omega arith) (omega (arith, place.in_root, size_of-some above))
+  | inl under ↦ no_twins 0 0 after above start m.tree root_part (omega arith) low of_root (omega arith) (omega (arith, of_root.in_root, size_of-some above))
       (subst (λ (own : Span). list_any (is_same own) (free_in 0 0 after) ≡ true)
-      (holder_is (above + 1) start part (lower_place above start place low) from under) m.there)
+      (holder_is (above + 1) start part (lower_part above start of_root low) from under) m.there)
       (listed_after words before after part (span_at (start + size_of (above + 1)) (above + 1)) above merge m more
-      (upper_place above start _ place low refl) refl (upper_is_buddy above start part.start place low from under))
-  | inr over ↦ no_twins 0 0 after above start m.tree root_place (omega arith) low place (omega arith) (omega (arith, place.in_root, size_of-some above))
+      (upper_part above start _ of_root low refl) refl (upper_is_buddy above start part.start of_root low from under))
+  | inr over ↦ no_twins 0 0 after above start m.tree root_part (omega arith) low of_root (omega arith) (omega (arith, of_root.in_root, size_of-some above))
       (listed_after words before after part (span_at start (above + 1)) above merge m more
-      (lower_place above start place low) refl (lower_is_buddy above start part.start place low over below))
+      (lower_part above start of_root low) refl (lower_is_buddy above start part.start of_root low over below))
       (subst (λ (own : Span). list_any (is_same own) (free_in 0 0 after) ≡ true)
-      (holder_is (above + 1) (start + size_of (above + 1)) part (upper_place above start _ place low refl) over
+      (holder_is (above + 1) (start + size_of (above + 1)) part (upper_part above start _ of_root low refl) over
       (omega (arith, below, size_of-halves above low))) m.there)
 ]
   where
@@ -207,8 +207,8 @@ not_high words before after part above merge m more = elim (cases_lt part.start 
     low : above < highest_level
     low = omega (arith, m.parted.order, m.parted.low)
 
-    place : IsPlace above start
-    place = holder_place above part (omega (arith, low)) m.in_root
+    of_root : IsRootPart above start
+    of_root = holder_part above part (omega (arith, low)) m.in_root
 
     from : start ≤ part.start
     from = omega arith

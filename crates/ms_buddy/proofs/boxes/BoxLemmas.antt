@@ -16,7 +16,7 @@ use Rattle.ms_buddy.specs.declared.node.Node.{Node as BoxedNode}
 use Rattle.ms_buddy.specs.declared.node.Node.TheVariants.{Split' as BoxedSplit}
 use Rattle.ms_buddy.specs.Boxes.{shape_of}
 use Rattle.ms_buddy.specs.Leaves.{LentLeaf, IsCarveRefusal, IsLeafAt, covers, fits_in, is_lent, is_same, leaf_of, span_at, span_of}
-use Rattle.ms_buddy.specs.Tree.{Node, Split, IsTree, IsPlace, free_in, free_in_halves, lent_in, lent_in_halves}
+use Rattle.ms_buddy.specs.Tree.{Node, Split, IsTree, IsRootPart, free_in, free_in_halves, lent_in, lent_in_halves}
 use Rattle.ms_buddy.proofs.WalkLemmas.{find-none, none_lent_covers_below}
 use Rattle.ms_buddy.proofs.SplitLemmas.{AtSplit, at_split, lower_found, upper_found}
 use Rattle.ms_buddy.proofs.changes.MergeLemmas.{whole_found}
@@ -59,11 +59,11 @@ upper_leaf offset level start half lower upper part (LentTo owner front) tree si
     ) refl
 
 -- A node that is merged whole is the free leaf that covers the part that was lent in it.
-pub merged_whole : (part : Span) (level start : ℕ) (node : Node) (result : Span) → IsTree level node → IsPlace level start
+pub merged_whole : (part : Span) (level start : ℕ) (node : Node) (result : Span) → IsTree level node → IsRootPart level start
     → IsTrue (is_lent (lent_in level start node) part) → result.start ≡ start → result.level ≡ level
     → find (covers part.start) (span_at start level ∷ []) ≡ Some result
-merged_whole part level start node result tree place lent e f =
-    find_alone (covers part.start) (span_at start level) _ (whole_found part level start node tree place lent)
+merged_whole part level start node result tree of_root lent e f =
+    find_alone (covers part.start) (span_at start level) _ (whole_found part level start node tree of_root lent)
     ∙ ap Some (rw (← e, ← f) refl)
   where
     find_alone : (test : Span → Bool) (own other : Span) → find test (own ∷ []) ≡ Some other → find test (own ∷ []) ≡ Some own

@@ -6,9 +6,9 @@ use Rattle.std.proofs.lemmas.List.{append-nil, length_push}
 use Rattle.ms_base.specs.declared.span.Span.{Span}
 use Rattle.ms_buddy.specs.declared.node_walk.Visit.{Visit}
 use Rattle.ms_buddy.specs.Boxes.{shape_of}
-use Rattle.ms_buddy.specs.Tree.{Node, Free, Lent, Split, IsPlace, IsTree, free_in, free_in_halves}
+use Rattle.ms_buddy.specs.Tree.{Node, Free, Lent, Split, IsRootPart, IsTree, free_in, free_in_halves}
 use Rattle.ms_buddy.specs.Walk.{IsStack, left_of}
-use Rattle.ms_buddy.proofs.TreeHalvesLemmas.{lower_place, upper_place}
+use Rattle.ms_buddy.proofs.TreeHalvesLemmas.{lower_part, upper_part}
 use Rattle.ms_buddy.proofs.SplitLemmas.{AtSplit}
 
 -- How many nodes a node has, itself among them.
@@ -44,22 +44,22 @@ left_of-push (Some other ∷ visits) visit =
 pub record IsTop {A : Type 0} (number : ℕ) (visits : List (Option (Visit A))) (visit : Visit A) : Type 0 where
   pub below : IsStack number visits
   pub low : number + length visits ≤ visit.level
-  pub place : IsPlace visit.level visit.start
+  pub of_root : IsRootPart visit.level visit.start
   pub tree : IsTree visit.level (shape_of visit.node.now)
 
 pub popped : {A : Type 0} (number : ℕ) (visits : List (Option (Visit A))) (visit : Visit A) → IsStack number (visits ++ Some visit ∷ []) → IsTop number visits visit
-popped number [] visit stack = record { below = tt; low = omega (arith, stack.0); place = stack.1; tree = stack.2 }
+popped number [] visit stack = record { below = tt; low = omega (arith, stack.0); of_root = stack.1; tree = stack.2 }
 popped number (None ∷ visits) visit stack = absurd stack
 popped number (Some other ∷ visits) visit stack =
     let rest = popped (number + 1) visits visit stack.3 in
-    record { below = (stack.0, stack.1, stack.2, rest.below); low = omega (arith, rest.low); place = rest.place; tree = rest.tree }
+    record { below = (stack.0, stack.1, stack.2, rest.below); low = omega (arith, rest.low); of_root = rest.of_root; tree = rest.tree }
 
 pub pushed : {A : Type 0} (number : ℕ) (visits : List (Option (Visit A))) (visit : Visit A) → IsStack number visits → number + length visits ≤ visit.level
-    → IsPlace visit.level visit.start → IsTree visit.level (shape_of visit.node.now) → IsStack number (visits ++ Some visit ∷ [])
-pushed number [] visit stack low place tree = (omega arith, place, tree, tt)
-pushed number (None ∷ visits) visit stack low place tree = absurd stack
-pushed number (Some other ∷ visits) visit stack low place tree =
-    (stack.0, stack.1, stack.2, pushed (number + 1) visits visit stack.3 (omega arith) place tree)
+    → IsRootPart visit.level visit.start → IsTree visit.level (shape_of visit.node.now) → IsStack number (visits ++ Some visit ∷ [])
+pushed number [] visit stack low of_root tree = (omega arith, of_root, tree, tt)
+pushed number (None ∷ visits) visit stack low of_root tree = absurd stack
+pushed number (Some other ∷ visits) visit stack low of_root tree =
+    (stack.0, stack.1, stack.2, pushed (number + 1) visits visit stack.3 (omega arith) of_root tree)
 
 pub no_gap : {A : Type 0} (number : ℕ) (visits : List (Option (Visit A))) → IsStack number (visits ++ None ∷ []) → ⊥
 no_gap number [] stack = stack
@@ -106,10 +106,10 @@ past_split visits rest one now visit low high half turn s nodes low_level low_st
   stack = subst (λ (xs : List (Option (Visit _))). IsStack 0 xs) (sym whole)
       (pushed 0 (rest ++ Some high ∷ []) low
       (pushed 0 rest high turn.top.below (omega (arith, turn.top.low, high_level))
-      (rw high_level (upper_place visit.level visit.start high.start turn.top.place s.low (high_start ∙ ap (λ (n : ℕ). visit.start + n) s.halves.size)))
+      (rw high_level (upper_part visit.level visit.start high.start turn.top.of_root s.low (high_start ∙ ap (λ (n : ℕ). visit.start + n) s.halves.size)))
       (rw high_level s.halves.high_tree))
       (omega (arith, turn.top.low, low_level, length_push rest (Some high)))
-      (rw (low_level, low_start) (lower_place visit.level visit.start turn.top.place s.low))
+      (rw (low_level, low_start) (lower_part visit.level visit.start turn.top.of_root s.low))
       (rw low_level s.halves.low_tree));
   left = ap left_of whole ∙ left_of-push (rest ++ Some high ∷ []) low ∙ ap (λ (parts : List Span). free_in low.level low.start (shape_of low.node.now) ++ parts) (left_of-push rest high)
       ∙ sym (append_assoc (free_in low.level low.start (shape_of low.node.now)) (free_in high.level high.start (shape_of high.node.now)) (left_of rest))
@@ -123,7 +123,7 @@ past_split visits rest one now visit low high half turn s nodes low_level low_st
     halves : free_in low.level low.start (shape_of low.node.now) ++ free_in high.level high.start (shape_of high.node.now) ≡ free_in_halves visit.level visit.start (shape_of low.node.now) (shape_of high.node.now)
     halves = rw (low_level, low_start, high_level, high_start, s.halves.size) refl
 
--- A place that is in use has a visit.
+-- An entry that is in use has a visit.
 pub gap_absurd : {A : Type 0} (visits rest : List (Option (Visit A))) (taken : Option (Visit A)) → visits ≡ rest ++ taken ∷ [] → taken ≡ None → IsStack 0 visits → ⊥
 gap_absurd visits rest taken e f stack =
     no_gap 0 rest (subst (λ (xs : List (Option (Visit _))). IsStack 0 xs) (e ∙ ap (λ (x : Option (Visit _)). rest ++ x ∷ []) f) stack)

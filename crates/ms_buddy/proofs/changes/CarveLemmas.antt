@@ -14,8 +14,8 @@ use Rattle.ms_base.proofs.free.PartLemmas.{parts_are_nested_or_apart}
 use Rattle.ms_buddy.specs.Counts.{holder_of}
 use Rattle.ms_buddy.specs.Leaves.{LentLeaf, is_same, fits_in, span_at, words_of, with_leaf}
 use Rattle.ms_buddy.specs.Tree.{Node}
-use Rattle.ms_buddy.specs.Tree.{IsInside, IsPlace, MayBeLent, IsTree, lent_in, free_in, lent_in_halves, free_in_halves}
-use Rattle.ms_buddy.proofs.TreeHalvesLemmas.{holder_is, size_of-some, size_of-halves, lower_place, upper_place}
+use Rattle.ms_buddy.specs.Tree.{IsInside, IsRootPart, MayBeLent, IsTree, lent_in, free_in, lent_in_halves, free_in_halves}
+use Rattle.ms_buddy.proofs.TreeHalvesLemmas.{holder_is, size_of-some, size_of-halves, lower_part, upper_part}
 use Rattle.ms_buddy.proofs.WalkLemmas.{LiesIn, LeafIn, lent_lies_in, free_lies_in, all_weaker, any-none}
 use Rattle.ms_buddy.proofs.WalkLemmas.{none_free_above, none_free_below}
 use Rattle.ms_buddy.proofs.SplitLemmas.{AtHalves}
@@ -37,18 +37,18 @@ ends_in part level start small large h from below =
     overlap a s b t h k l e = grind (arith, nat_tests)
 
 -- A part of a greater level lies in the half where it starts.
-pub lower_inside : (part : Span) (level start half : ℕ) → IsPlace level start → level < part.level
+pub lower_inside : (part : Span) (level start half : ℕ) → IsRootPart level start → level < part.level
     → IsPart part.start part.level → IsInside level start part
     → half ≡ size_of (level + 1) → part.start < start + half → IsInside (level + 1) start part
-lower_inside part level start half place h is_part inside size below = record {
+lower_inside part level start half of_root h is_part inside size below = record {
   low = omega arith;
   from = inside.from;
-  to = ends_in part (level + 1) start is_part (half_place.level_fits, half_place.aligned) (omega arith) inside.from
+  to = ends_in part (level + 1) start is_part (half_part.level_fits, half_part.aligned) (omega arith) inside.from
       (omega (arith, size));
 }
   where
-    half_place : IsPlace (level + 1) start
-    half_place = lower_place level start place (omega (arith, is_part.0))
+    half_part : IsRootPart (level + 1) start
+    half_part = lower_part level start of_root (omega (arith, is_part.0))
 
 pub upper_inside : (part : Span) (level start half : ℕ) → level < part.level → part.level ≤ highest_level
     → IsInside level start part
@@ -63,9 +63,9 @@ upper_inside part level start half h k inside size above = record {
 pub lower_may : (part : Span) (level start half front : ℕ) → MayBeLent level start part front → level < part.level
     → half ≡ size_of (level + 1) → part.start < start + half → MayBeLent (level + 1) start part front
 lower_may part level start half front may h size below = record {
-  place = lower_place level start may.place (omega (arith, may.is_part.0));
+  of_root = lower_part level start may.of_root (omega (arith, may.is_part.0));
   is_part = may.is_part;
-  inside = lower_inside part level start half may.place h may.is_part may.inside size below;
+  inside = lower_inside part level start half may.of_root h may.is_part may.inside size below;
   some = may.some;
   within = may.within;
 }
@@ -73,7 +73,7 @@ lower_may part level start half front may h size below = record {
 pub upper_may : (part : Span) (level start half front : ℕ) → MayBeLent level start part front → level < part.level
     → half ≡ size_of (level + 1) → start + half ≤ part.start → MayBeLent (level + 1) (start + half) part front
 upper_may part level start half front may h size above = record {
-  place = upper_place level start (start + half) may.place (omega (arith, may.is_part.0)) (omega (arith, size));
+  of_root = upper_part level start (start + half) may.of_root (omega (arith, may.is_part.0)) (omega (arith, size));
   is_part = may.is_part;
   inside = upper_inside part level start half h may.is_part.0 may.inside size above;
   some = may.some;
@@ -182,7 +182,7 @@ upper_is_free part level start half lower upper s h =
 pub held_by_node : (part : Span) (level start front : ℕ) → MayBeLent level start part front
     → holder_of level part ≡ span_at start level
 held_by_node part level start front may =
-    holder_is level start part may.place may.inside.from (omega (arith, may.inside.to, size_of-some part.level))
+    holder_is level start part may.of_root may.inside.from (omega (arith, may.inside.to, size_of-some part.level))
 
 -- A leaf takes its place before all that start past it, and after all that start before it.
 leaf_before : (added : LentLeaf) (middle high : ℕ) (ys : List LentLeaf) → added.start < middle

@@ -12,8 +12,8 @@ use Rattle.ms_base.specs.Part.{IsPart, is_leader, buddy_start}
 use Rattle.ms_buddy.specs.Tree.{Node}
 use Rattle.ms_buddy.specs.Tree.{Free, Lent, Split}
 use Rattle.ms_buddy.specs.Leaves.{LentLeaf, span_of, is_same, is_lent, can_enlarge}
-use Rattle.ms_buddy.specs.Tree.{IsPlace, is_free, lent_in, free_in, lent_in_halves, free_in_halves}
-use Rattle.ms_buddy.proofs.TreeHalvesLemmas.{size_of-some, size_of-halves, lower_place, mod-past}
+use Rattle.ms_buddy.specs.Tree.{IsRootPart, is_free, lent_in, free_in, lent_in_halves, free_in_halves}
+use Rattle.ms_buddy.proofs.TreeHalvesLemmas.{size_of-some, size_of-halves, lower_part, mod-past}
 use Rattle.ms_buddy.proofs.WalkLemmas.{LiesIn, all_joined, all_weaker, lent_levels, free_levels}
 use Rattle.ms_buddy.proofs.SplitLemmas.{AtHalves, lent_part_lies_in, lower_lent, upper_lent}
 use Rattle.ms_buddy.proofs.changes.CarveLemmas.{ends_in, lower_is_free, upper_is_free}
@@ -52,17 +52,17 @@ alike part free other e = by_leader (nat_lt 0 part.level) (is_leader part.start 
     by_leader false b x y e = refl
 
 deep_lower_can : (part : Span) (level start half : ℕ) (lower upper : Node)
-    → AtHalves level start half lower upper → IsPlace level start → level + 1 < part.level → part.level ≤ highest_level
+    → AtHalves level start half lower upper → IsRootPart level start → level + 1 < part.level → part.level ≤ highest_level
     → start ≤ part.start → part.start < start + half
     → can_enlarge part (free_in_halves level start lower upper) ≡ can_enlarge part (free_in (level + 1) start lower)
-deep_lower_can part level start half lower upper s place h k from below =
+deep_lower_can part level start half lower upper s of_root h k from below =
     alike part (free_in_halves level start lower upper) (free_in (level + 1) start lower)
     (λ e. lower_is_free (record { start = buddy_start part.start part.level; level = part.level }) level start half
     lower upper s
     (subst (λ (n : ℕ). n < start + half) (sym (buddy_of_leader part e)) (inside e)))
   where
-    half_place : IsPlace (level + 1) start
-    half_place = lower_place level start place (omega arith)
+    half_part : IsRootPart (level + 1) start
+    half_part = lower_part level start of_root (omega arith)
 
     inside : is_leader part.start part.level ≡ true → part.start + size_of part.level < start + half
     inside e = omega (
@@ -71,7 +71,7 @@ deep_lower_can part level start half lower upper s place h k from below =
       size_of-some part.level,
       parent_size,
       ends_in (record { start = part.start; level = part.level - 1 }) (level + 1) start (leader_parent part k e)
-          (half_place.level_fits, half_place.aligned) (omega arith) from (omega (arith, s.size)),
+          (half_part.level_fits, half_part.aligned) (omega arith) from (omega (arith, s.size)),
     )
       where
         parent_size : size_of part.level + size_of part.level ≡ size_of (part.level - 1)
@@ -100,13 +100,13 @@ lent_part_level part level start node e = of_list (lent_in level start node) (le
         ] refl e
 
 pub lower_can : (part : Span) (level start half : ℕ) (lower upper : Node)
-    → AtHalves level start half lower upper → IsPlace level start
+    → AtHalves level start half lower upper → IsRootPart level start
     → IsTrue (is_lent (lent_in_halves level start lower upper) part) → (part.level ≡ level + 1 → ⊥)
     → part.level ≤ highest_level
     → part.start < start + half
     → can_enlarge part (free_in_halves level start lower upper) ≡ can_enlarge part (free_in (level + 1) start lower)
-lower_can part level start half lower upper s place lent deeper k below =
-    deep_lower_can part level start half lower upper s place
+lower_can part level start half lower upper s of_root lent deeper k below =
+    deep_lower_can part level start half lower upper s of_root
     (past (level + 1) part.level (lent_part_level part (level + 1) start lower here) deeper) k
     (lent_part_lies_in part (level + 1) start lower s.low_tree here).from below
   where
@@ -174,10 +174,10 @@ split_not_lent part level start node lower upper e f =
 
 -- The upper half can't become its parent.
 pub follower_cannot : (part : Span) (level start half : ℕ) (lower upper : Node) (free : List Span)
-    → AtHalves level start half lower upper → IsPlace level start → level < highest_level
+    → AtHalves level start half lower upper → IsRootPart level start → level < highest_level
     → IsTrue (is_lent (lent_in_halves level start lower upper) part) → part.level ≡ level + 1 → start < part.start
     → can_enlarge part free ≡ false
-follower_cannot part level start half lower upper free s place low lent child above =
+follower_cannot part level start half lower upper free s of_root low lent child above =
     not_leader (nat_lt 0 part.level) (part.start % size_of (part.level - 1))
     (list_any (is_same (record { start = buddy_start part.start part.level; level = part.level })) free) remainder
   where
@@ -206,7 +206,7 @@ follower_cannot part level start half lower upper free s place low lent child ab
     remainder : 0 < part.start % size_of (part.level - 1)
     remainder = subst (λ (n : ℕ). 0 < n % size_of (part.level - 1)) (sym middle)
         (subst (λ (l : ℕ). 0 < (start + half) % size_of l) (back part.level child)
-        (subst (λ (n : ℕ). 0 < n) (sym (mod-past start half (size_of level) place.aligned below_whole))
+        (subst (λ (n : ℕ). 0 < n) (sym (mod-past start half (size_of level) of_root.aligned below_whole))
         (omega (arith, s.size, size_of-some (level + 1)))))
       where
         back : (l : ℕ) → l ≡ level + 1 → level ≡ l - 1

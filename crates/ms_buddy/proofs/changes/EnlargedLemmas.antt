@@ -8,8 +8,8 @@ use Rattle.ms_base.specs.Level.{size_of, highest_level}
 use Rattle.ms_base.specs.Part.{is_leader}
 use Rattle.ms_buddy.specs.Counts.{IsParted, follower_of}
 use Rattle.ms_buddy.specs.Leaves.{can_enlarge, is_lent, with_parent}
-use Rattle.ms_buddy.specs.Tree.{Node, Free, Lent, Split, IsPlace, IsSplit, IsTree, free_in, is_free, lent_in}
-use Rattle.ms_buddy.proofs.TreeHalvesLemmas.{lower_place, size_of-halves, upper_place}
+use Rattle.ms_buddy.specs.Tree.{Node, Free, Lent, Split, IsRootPart, IsSplit, IsTree, free_in, is_free, lent_in}
+use Rattle.ms_buddy.proofs.TreeHalvesLemmas.{lower_part, size_of-halves, upper_part}
 use Rattle.ms_buddy.proofs.SplitLemmas.{at_split, lower_changed, lower_lent, parent_acts, upper_changed, upper_lent}
 use Rattle.ms_buddy.proofs.changes.EnlargeLemmas.{follower_cannot, leader_cannot, lower_can, split_not_leader, starts_here, upper_can}
 use Rattle.ms_buddy.proofs.counts.CountLemmas.{leader_parted, lower_parted_at, upper_parted_at}
@@ -27,7 +27,7 @@ pub record Enlarged (level start : ℕ) (part : Span) (front : ℕ) (before : No
 -- What is asked.
 pub record MayBecome (level start : ℕ) (part : Span) (front : ℕ) (node : Node) : Type 0 where
   pub tree : IsTree level node
-  pub place : IsPlace level start
+  pub of_root : IsRootPart level start
   pub low : part.level ≤ highest_level
   pub lent : IsTrue (is_lent (lent_in level start node) part)
   pub some : 0 < front
@@ -75,7 +75,7 @@ enlarged level start (Split lower upper) part front may =
     let s = at_split level start lower upper may.tree in
     elim (cases_eq part.level (level + 1)) [
       | inl child ↦ elim (cases_lt start part.start) [
-        | inl above ↦ absurd (clash _ may.can (follower_cannot part level start _ lower upper _ s.halves may.place s.low
+        | inl above ↦ absurd (clash _ may.can (follower_cannot part level start _ lower upper _ s.halves may.of_root s.low
             may.lent child above))
         | inr below ↦ here level start lower upper part front may child
             (starts_here part level start _ lower upper s.halves may.lent below)
@@ -84,12 +84,12 @@ enlarged level start (Split lower upper) part front may =
         | inl below ↦
             let half = enlarged (level + 1) start lower part front (record {
               tree = may.tree.2;
-              place = lower_place level start may.place s.low;
+              of_root = lower_part level start may.of_root s.low;
               low = may.low;
               lent = lower_lent part level start _ lower upper s.halves below may.lent;
               some = may.some;
               within = may.within;
-              can = sym (lower_can part level start _ lower upper s.halves may.place may.lent other may.low below) ∙ may.can;
+              can = sym (lower_can part level start _ lower upper s.halves may.of_root may.lent other may.low below) ∙ may.can;
             }) in record {
               after = Split half.after upper;
               tree = (s.low, ap (λ b. b && is_free upper) half.free ∙ s.one, half.tree, may.tree.3);
@@ -102,7 +102,7 @@ enlarged level start (Split lower upper) part front may =
         | inr above ↦
             let half = enlarged (level + 1) (start + size_of (level + 1)) upper part front (record {
               tree = may.tree.3;
-              place = upper_place level start _ may.place s.low refl;
+              of_root = upper_part level start _ may.of_root s.low refl;
               low = may.low;
               lent = upper_lent part level start _ lower upper s.halves above may.lent;
               some = may.some;

@@ -13,16 +13,16 @@ use Rattle.ms_base.proofs.free.HalvesLemmas.{multiple_of_smaller, steps_apart}
 use Rattle.ms_buddy.specs.Leaves.{LentLeaf, can_enlarge, is_lent, is_same}
 use Rattle.ms_buddy.specs.Leaves.{span_at, AreLeaves}
 use Rattle.ms_buddy.specs.Leaves.{span_of as leaf_span}
-use Rattle.ms_buddy.specs.Tree.{IsPlace}
+use Rattle.ms_buddy.specs.Tree.{IsRootPart}
 use Rattle.ms_buddy.proofs.TreeHalvesLemmas.{size_of-halves, size_of-some}
 
 -- Where a lent leaf lies.
-pub lent_place : (part : Span) (leaves : List LentLeaf) → AllByRecursion (λ leaf. IsPart leaf.start leaf.level) leaves
+pub lent_part : (part : Span) (leaves : List LentLeaf) → AllByRecursion (λ leaf. IsPart leaf.start leaf.level) leaves
     → AllByRecursion (λ leaf. leaf.start + size_of leaf.level ≤ 524288) leaves
     → is_lent leaves part ≡ true → IsPart part.start part.level × (part.start + size_of part.level ≤ 524288)
-lent_place part [] parts inside there = absurd (cc)
-lent_place part (leaf ∷ leaves) parts inside there =
-    go (is_same part (leaf_span leaf)) refl there (lent_place part leaves parts.1 inside.1)
+lent_part part [] parts inside there = absurd (cc)
+lent_part part (leaf ∷ leaves) parts inside there =
+    go (is_same part (leaf_span leaf)) refl there (lent_part part leaves parts.1 inside.1)
   where
     go : (b : Bool) → is_same part (leaf_span leaf) ≡ b → (b || is_lent leaves part) ≡ true
         → (is_lent leaves part ≡ true → IsPart part.start part.level × (part.start + size_of part.level ≤ 524288))
@@ -106,21 +106,21 @@ pub leader_there : (tree : List LentLeaf) (start level number size : ℕ) → Ar
 leader_there tree start level number size leaves lent same low other is whole = record {
   some = some;
   leads = leads start level size is some (omega (arith, same, low)) whole;
-  placed = place.0;
+  placed = of_root.0;
   low = omega (arith, same, low);
   within = omega (
     arith,
     is,
     buddy_within start level some (omega (arith, same, low))
-        (leads start level size is some (omega (arith, same, low)) whole) place.1,
+        (leads start level size is some (omega (arith, same, low)) whole) of_root.1,
   );
 }
   where
     some : 0 < level
     some = omega (arith, same, other)
 
-    place : IsPart start level × (start + size_of level ≤ 524288)
-    place = lent_place (span_at start level) tree leaves.parts leaves.in_root lent
+    of_root : IsPart start level × (start + size_of level ≤ 524288)
+    of_root = lent_part (span_at start level) tree leaves.parts leaves.in_root lent
 
 pub leads_of : (part : Span) (free : List Span) → can_enlarge part free ≡ true → part.start % size_of (part.level - 1) ≡ 0
 leads_of part free can =
@@ -130,9 +130,9 @@ leads_of part free can =
     eqb-true (part.start % size_of (part.level - 1)) 0 (and_parts (nat_lt 0 part.level) (is_leader part.start part.level) both.0).1
 
 -- The follower of a leader is a part of the root.
-pub follower_place : (start level : ℕ) → 0 < level → start % size_of (level - 1) ≡ 0 → IsPart start level
-    → level ≤ highest_level → start + size_of level < 524288 → IsPlace level (start + size_of level)
-follower_place start level some leads part low below = record {
+pub follower_part : (start level : ℕ) → 0 < level → start % size_of (level - 1) ≡ 0 → IsPart start level
+    → level ≤ highest_level → start + size_of level < 524288 → IsRootPart level (start + size_of level)
+follower_part start level some leads part low below = record {
   level_fits = low;
   aligned = (buddy_is_part start level part).1;
   in_root = omega (

@@ -9,26 +9,26 @@ use Rattle.ms_buddy.specs.Tree.{Node}
 use Rattle.ms_buddy.specs.Tree.{Free, Lent, Split}
 use Rattle.ms_buddy.specs.Counts.{IsParted, holder_of}
 use Rattle.ms_buddy.specs.Leaves.{covers, is_lent, span_at}
-use Rattle.ms_buddy.specs.Tree.{IsPlace, IsTree, free_in, is_free, lent_in}
-use Rattle.ms_buddy.proofs.TreeHalvesLemmas.{holder_is, lower_place, size_of-some, upper_place}
+use Rattle.ms_buddy.specs.Tree.{IsRootPart, IsTree, free_in, is_free, lent_in}
+use Rattle.ms_buddy.proofs.TreeHalvesLemmas.{holder_is, lower_part, size_of-some, upper_part}
 use Rattle.ms_buddy.proofs.WalkLemmas.{LiesIn}
 use Rattle.ms_buddy.proofs.SplitLemmas.{AtSplit, lent_part_lies_in}
 use Rattle.ms_buddy.proofs.counts.CountLemmas.{lower_half_parted, upper_half_parted}
 
 -- The part of a node's level in which a part starts that is lent in the node is the node's.
-holder_in : (part : Span) (level start : ℕ) (node : Node) → IsTree level node → IsPlace level start
+holder_in : (part : Span) (level start : ℕ) (node : Node) → IsTree level node → IsRootPart level start
     → IsTrue (is_lent (lent_in level start node) part) → holder_of level part ≡ span_at start level
-holder_in part level start node tree place lent =
+holder_in part level start node tree of_root lent =
     let lies : LiesIn start (start + size_of level) part = lent_part_lies_in part level start node tree lent in
-    holder_is level start part place lies.from (omega (arith, lies.to, size_of-some part.level))
+    holder_is level start part of_root lies.from (omega (arith, lies.to, size_of-some part.level))
 
 -- A node that is merged whole is the free leaf that covers the part that was lent in it.
-pub whole_found : (part : Span) (level start : ℕ) (node : Node) → IsTree level node → IsPlace level start
+pub whole_found : (part : Span) (level start : ℕ) (node : Node) → IsTree level node → IsRootPart level start
     → IsTrue (is_lent (lent_in level start node) part)
     → find (covers part.start) (span_at start level ∷ []) ≡ Some (holder_of level part)
-whole_found part level start node tree place lent =
+whole_found part level start node tree of_root lent =
     rw (covered start part.start (size_of level) lies.from (omega (arith, lies.to, size_of-some part.level)))
-    (ap Some (sym (holder_in part level start node tree place lent)))
+    (ap Some (sym (holder_in part level start node tree of_root lent)))
   where
     lies : LiesIn start (start + size_of level) part
     lies = lent_part_lies_in part level start node tree lent
@@ -49,13 +49,13 @@ free_alone level start (Split lower upper) e = absurd (cc)
 
 -- What a merge makes of the free leaves, where the part was in the lower half, or in the upper one.
 pub lower_merged : (part : Span) (level start half free : ℕ) (node lower upper now : Node)
-    → AtSplit level start half node lower upper → IsTree level node → IsPlace level start
+    → AtSplit level start half node lower upper → IsTree level node → IsRootPart level start
     → IsTrue (is_lent (lent_in level start node) part) → part.start < start + half → is_free upper ≡ true
     → is_free now ≡ (free == level + 1) → free ≡ level + 1
     → IsParted (free_in (level + 1) start now) (holder_of free part) part (free_in (level + 1) start lower)
     → IsParted (span_at start level ∷ []) (holder_of level part) part (free_in level start node)
-lower_merged part level start half free node lower upper now s tree place lent below beside whole e parted =
-    rw (s.free, holder_in part level start node tree place lent, free_alone (level + 1) (start + size_of (level + 1)) upper beside)
+lower_merged part level start half free node lower upper now s tree of_root lent below beside whole e parted =
+    rw (s.free, holder_in part level start node tree of_root lent, free_alone (level + 1) (start + size_of (level + 1)) upper beside)
     (lower_half_parted part level start (free_in (level + 1) start lower)
     (omega (arith, parted.order, e)) (omega (arith, s.halves.size, below))
     (rw (free_alone (level + 1) start now (whole ∙ is_whole free (level + 1) e), ap (λ (n : ℕ). holder_of n part) e ∙ held)
@@ -65,18 +65,18 @@ lower_merged part level start half free node lower upper now s tree place lent b
     lies = lent_part_lies_in part level start node tree lent
 
     held : holder_of (level + 1) part ≡ span_at start (level + 1)
-    held = holder_is (level + 1) start part (lower_place level start place s.low) lies.from
+    held = holder_is (level + 1) start part (lower_part level start of_root s.low) lies.from
         (omega (arith, s.halves.size, below))
 
 pub upper_merged : (part : Span) (level start half free : ℕ) (node lower upper now : Node)
-    → AtSplit level start half node lower upper → IsTree level node → IsPlace level start
+    → AtSplit level start half node lower upper → IsTree level node → IsRootPart level start
     → IsTrue (is_lent (lent_in level start node) part) → start + half ≤ part.start
     → part.start < start + half + size_of (level + 1) → is_free lower ≡ true
     → is_free now ≡ (free == level + 1) → free ≡ level + 1
     → IsParted (free_in (level + 1) (start + half) now) (holder_of free part) part (free_in (level + 1) (start + half) upper)
     → IsParted (span_at start level ∷ []) (holder_of level part) part (free_in level start node)
-upper_merged part level start half free node lower upper now s tree place lent above below beside whole e parted =
-    rw (s.free, holder_in part level start node tree place lent, free_alone (level + 1) start lower beside)
+upper_merged part level start half free node lower upper now s tree of_root lent above below beside whole e parted =
+    rw (s.free, holder_in part level start node tree of_root lent, free_alone (level + 1) start lower beside)
     (upper_half_parted part level start (free_in (level + 1) (start + size_of (level + 1)) upper)
     (omega (arith, parted.order, e)) (omega (arith, s.halves.size, above))
     (subst (λ (n : ℕ). IsParted (span_at (start + n) (level + 1) ∷ []) (span_at (start + n) (level + 1)) part
@@ -88,4 +88,4 @@ upper_merged part level start half free node lower upper now s tree place lent a
   where
     held : holder_of (level + 1) part ≡ span_at (start + half) (level + 1)
     held = holder_is (level + 1) (start + half) part
-        (upper_place level start (start + half) place s.low (omega (arith, s.halves.size))) above below
+        (upper_part level start (start + half) of_root s.low (omega (arith, s.halves.size))) above below

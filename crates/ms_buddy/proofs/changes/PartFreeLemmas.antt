@@ -24,7 +24,7 @@ whole_for part level start owner front may same = record {
   tree = (may.some, subst (λ (n : ℕ). front ≤ size_of n) (sym same) may.within);
   split = refl;
   lent = rw (starts, same) refl;
-  parted = whole_parted (span_at start level) part may.place.level_fits (sym same);
+  parted = whole_parted (span_at start level) part may.of_root.level_fits (sym same);
 }
   where
     starts : start ≡ part.start

@@ -8,8 +8,8 @@ use Rattle.ms_base.specs.declared.span.Span.{Span}
 use Rattle.ms_base.specs.Level.{size_of}
 use Rattle.ms_buddy.specs.Counts.{IsParted, holder_of}
 use Rattle.ms_buddy.specs.Leaves.{covers, is_lent, is_same, span_at, without_leaf}
-use Rattle.ms_buddy.specs.Tree.{Node, Free, Lent, Split, IsPlace, IsSplit, IsTree, free_in, is_free, lent_in}
-use Rattle.ms_buddy.proofs.TreeHalvesLemmas.{lower_place, size_of-halves, size_of-some, upper_place}
+use Rattle.ms_buddy.specs.Tree.{Node, Free, Lent, Split, IsRootPart, IsSplit, IsTree, free_in, is_free, lent_in}
+use Rattle.ms_buddy.proofs.TreeHalvesLemmas.{lower_part, size_of-halves, size_of-some, upper_part}
 use Rattle.ms_buddy.proofs.SplitLemmas.{at_split, lent_part_lies_in, lower_changed, lower_found, lower_lent, upper_changed}
 use Rattle.ms_buddy.proofs.SplitLemmas.{upper_found, upper_lent, without_acts}
 use Rattle.ms_buddy.proofs.counts.CountLemmas.{leaf_parted, lower_parted_at, upper_parted_at}
@@ -79,10 +79,10 @@ kept_upper level start lower upper part tree above half one =
       was = λ split. tt;
     }
 
-in_lower : (level start : ℕ) (lower upper : Node) (part : Span) → IsTree level (Split lower upper) → IsPlace level start
+in_lower : (level start : ℕ) (lower upper : Node) (part : Span) → IsTree level (Split lower upper) → IsRootPart level start
     → IsTrue (is_lent (lent_in level start (Split lower upper)) part) → part.start < start + size_of (level + 1)
     → Released (level + 1) start part lower → Released level start part (Split lower upper)
-in_lower level start lower upper part tree place lent below half =
+in_lower level start lower upper part tree of_root lent below half =
     elim (is_free upper) as (λ b. is_free upper ≡ b → Released level start part (Split lower upper)) [
       | false ↦ λ beside. kept_lower level start lower upper part tree below half
           (ap (λ b. is_free half.after && b) beside ∙ and_false (is_free half.after))
@@ -100,18 +100,18 @@ in_lower level start lower upper part tree place lent below half =
               ∙ none_lent (level + 1) (start + size_of (level + 1)) upper beside)
               ∙ lower_changed level start _ lower upper half.after part (without_leaf part) (without_acts part) s.halves
               below half.lent;
-          found = whole_found part level start (Split lower upper) tree place lent;
-          parted = lower_merged part level start _ half.free (Split lower upper) lower upper half.after s tree place lent
+          found = whole_found part level start (Split lower upper) tree of_root lent;
+          parted = lower_merged part level start _ half.free (Split lower upper) lower upper half.after s tree of_root lent
               below beside half.whole merges half.parted;
           was = λ split. absurd split;
         }
       ]
     ] refl
 
-in_upper : (level start : ℕ) (lower upper : Node) (part : Span) → IsTree level (Split lower upper) → IsPlace level start
+in_upper : (level start : ℕ) (lower upper : Node) (part : Span) → IsTree level (Split lower upper) → IsRootPart level start
     → IsTrue (is_lent (lent_in level start (Split lower upper)) part) → start + size_of (level + 1) ≤ part.start
     → Released (level + 1) (start + size_of (level + 1)) part upper → Released level start part (Split lower upper)
-in_upper level start lower upper part tree place lent above half =
+in_upper level start lower upper part tree of_root lent above half =
     elim (is_free lower) as (λ b. is_free lower ≡ b → Released level start part (Split lower upper)) [
       | false ↦ λ beside. kept_upper level start lower upper part tree above half
           (ap (λ b. b && is_free half.after) beside)
@@ -132,8 +132,8 @@ in_upper level start lower upper part tree place lent above half =
                   (half.whole ∙ is_whole half.free (level + 1) merges))
                   ∙ upper_changed level start _ lower upper half.after part (without_leaf part) (without_acts part) s.halves
                   above half.lent;
-              found = whole_found part level start (Split lower upper) tree place lent;
-              parted = upper_merged part level start _ half.free (Split lower upper) lower upper half.after s tree place lent
+              found = whole_found part level start (Split lower upper) tree of_root lent;
+              parted = upper_merged part level start _ half.free (Split lower upper) lower upper half.after s tree of_root lent
                   above (omega (arith, lies.to, size_of-halves level s.low, size_of-some part.level)) beside half.whole merges
                   half.parted;
               was = λ split. absurd split;
@@ -141,28 +141,28 @@ in_upper level start lower upper part tree place lent above half =
       ]
     ] refl
 
-pub released : (level start : ℕ) (node : Node) (part : Span) → IsTree level node → IsPlace level start
+pub released : (level start : ℕ) (node : Node) (part : Span) → IsTree level node → IsRootPart level start
     → IsTrue (is_lent (lent_in level start node) part) → Released level start part node
-released level start Free part tree place lent = absurd (cc)
-released level start (Lent owner front) part tree place lent = record {
+released level start Free part tree of_root lent = absurd (cc)
+released level start (Lent owner front) part tree of_root lent = record {
   after = Free;
   free = level;
   below = omega arith;
   tree = tt;
   whole = sym (is_whole level level refl);
   lent = rw (or_first (is_same part (span_at start level)) lent) refl;
-  found = whole_found part level start (Lent owner front) tree place lent;
-  parted = leaf_parted part level start owner front (Lent owner front) refl place lent;
+  found = whole_found part level start (Lent owner front) tree of_root lent;
+  parted = leaf_parted part level start owner front (Lent owner front) refl of_root lent;
   was = λ split. absurd split;
 }
-released level start (Split lower upper) part tree place lent =
+released level start (Split lower upper) part tree of_root lent =
     let s = at_split level start lower upper tree in
     elim (cases_lt part.start (start + size_of (level + 1))) [
-      | inl below ↦ in_lower level start lower upper part tree place lent below
-          (released (level + 1) start lower part tree.2 (lower_place level start place s.low)
+      | inl below ↦ in_lower level start lower upper part tree of_root lent below
+          (released (level + 1) start lower part tree.2 (lower_part level start of_root s.low)
           (lower_lent part level start _ lower upper s.halves below lent))
-      | inr above ↦ in_upper level start lower upper part tree place lent above
+      | inr above ↦ in_upper level start lower upper part tree of_root lent above
           (released (level + 1) (start + size_of (level + 1)) upper part tree.3
-          (upper_place level start _ place s.low refl)
+          (upper_part level start _ of_root s.low refl)
           (upper_lent part level start _ lower upper s.halves above lent))
     ]

@@ -12,7 +12,7 @@ use Rattle.ms_buddy.specs.Tree.{Free, Lent}
 use Rattle.ms_buddy.specs.Counts.{IsParted, beside, count_at_level, count_of_number, follower_of, halves_beside}
 use Rattle.ms_buddy.specs.Counts.{holder_of, number_of, one_at, one_between}
 use Rattle.ms_buddy.specs.Leaves.{is_lent, span_at}
-use Rattle.ms_buddy.specs.Tree.{IsPlace, free_in, free_in_halves, lent_in}
+use Rattle.ms_buddy.specs.Tree.{IsRootPart, free_in, free_in_halves, lent_in}
 use Rattle.ms_buddy.proofs.TreeHalvesLemmas.{holder_is, size_of-some}
 
 -- Counts of no part, of one, and of some after others.
@@ -86,9 +86,9 @@ lower_parted before after rest leaf part parted = record {
     count-append other before rest,
     count-append other after rest,
   );
-  places = λ number. omega (
+  numbered = λ number. omega (
     arith,
-    parted.places number,
+    parted.numbered number,
     number-append number before rest,
     number-append number after rest,
   );
@@ -105,9 +105,9 @@ upper_parted before after rest leaf part parted = record {
     count-append other rest before,
     count-append other rest after,
   );
-  places = λ number. omega (
+  numbered = λ number. omega (
     arith,
-    parted.places number,
+    parted.numbered number,
     number-append number rest before,
     number-append number rest after,
   );
@@ -147,7 +147,7 @@ whole_parted leaf part low e = record {
     ap (λ (n : ℕ). one_between leaf.level (n + 1) other) e,
     none_between leaf.level other,
   );
-  places = λ number. omega (
+  numbered = λ number. omega (
     arith,
     number-none number,
     ap (count_of_number number)
@@ -157,12 +157,12 @@ whole_parted leaf part low e = record {
 
 -- A lent leaf becomes free.
 pub leaf_parted : (part : Span) (level start owner front : ℕ) (node : Node) → node ≡ Lent owner front
-    → IsPlace level start → IsTrue (is_lent (lent_in level start node) part)
+    → IsRootPart level start → IsTrue (is_lent (lent_in level start node) part)
     → IsParted (span_at start level ∷ []) (holder_of level part) part (free_in level start node)
-leaf_parted part level start owner front node e place lent =
+leaf_parted part level start owner front node e of_root lent =
     subst (λ (x : Node). IsParted (span_at start level ∷ []) (holder_of level part) part (free_in level start x)) (sym e)
     (subst (λ (leaf : Span). IsParted (span_at start level ∷ []) leaf part []) (sym (held both.0))
-    (whole_parted (span_at start level) part place.level_fits (sym both.1)))
+    (whole_parted (span_at start level) part of_root.level_fits (sym both.1)))
   where
     same : (a b c d : ℕ) → (((a == b) && (c == d)) || false) ≡ true → (a ≡ b) × (c ≡ d)
     same a b c d e = (grind (arith, nat_tests), grind (arith, nat_tests))
@@ -172,7 +172,7 @@ leaf_parted part level start owner front node e place lent =
         (subst (λ (x : Node). IsTrue (is_lent (lent_in level start x) part)) e lent)
 
     held : start ≡ part.start → holder_of level part ≡ span_at start level
-    held e = holder_is level start part place (omega (arith, e)) (omega (arith, e, size_of-some level))
+    held e = holder_is level start part of_root (omega (arith, e)) (omega (arith, e, size_of-some level))
 
 -- A leader becomes its parent, and the free upper half is gone.
 pub leader_parted : (part : Span) (level start owner front : ℕ) (lower upper : Node)
@@ -216,10 +216,10 @@ half_parted part leaf half other xs ys e f levels numbers way parted = record {
     ap (λ (n : ℕ). one_between n (part.level + 1) level) e,
     first_between leaf.level part.level level (omega (arith, parted.order, e)),
   );
-  places = λ number. omega (
+  numbered = λ number. omega (
     arith,
     numbers number,
-    parted.places number,
+    parted.numbered number,
     ap (count_of_number number) way,
     number-append number (other ∷ []) (beside half part),
   );

@@ -19,7 +19,7 @@ use Rattle.ms_buddy.specs.Tree.{IsTree, free_in}
 use Rattle.ms_buddy.proofs.TreeHalvesLemmas.{size_of-halves}
 use Rattle.ms_buddy.proofs.WalkLemmas.{all_weaker, any-none}
 use Rattle.ms_buddy.proofs.counts.CountLemmas.{count-append, count-none, count-one}
-use Rattle.ms_buddy.proofs.bits.FreeNumberLemmas.{IsSpanPlace, free_places, root_place}
+use Rattle.ms_buddy.proofs.bits.FreeNumberLemmas.{IsRootSpan, free_spans, root_part}
 
 -- A tree has at most 4096 free leaves, since each has 128 words or more.
 few_free : (level start : ℕ) (node : Node) → level ≤ highest_level → IsTree level node
@@ -156,9 +156,9 @@ levels_told node counts levels level tree are told = elim (cases_lt level 13) [
   | inr past ↦
       told ∙ beyond level (get_or counts level 0) past
       ∙ sym (any-none (is_of level) (free_in 0 0 node)
-      (all_weaker IsSpanPlace (λ part. is_of level part ≡ false)
-      (λ part place. differs part.level level (omega (arith, place.level_fits, past))) (free_in 0 0 node)
-      (free_places 0 0 node tree root_place)))
+      (all_weaker IsRootSpan (λ part. is_of level part ≡ false)
+      (λ part of_root. differs part.level level (omega (arith, of_root.level_fits, past))) (free_in 0 0 node)
+      (free_spans 0 0 node tree root_part)))
 ]
   where
     within : (a n : ℕ) → a < 13 → (nat_lt a 13 && nat_lt 0 n) ≡ nat_lt 0 n

@@ -9,8 +9,8 @@ use Rattle.std.proofs.lemmas.List.Folds.{list_any-append}
 use Rattle.ms_base.specs.declared.span.Span.{Span}
 use Rattle.ms_base.specs.Level.{size_of}
 use Rattle.ms_buddy.specs.Leaves.{LentLeaf, covers, is_lent, is_same, span_at, span_of}
-use Rattle.ms_buddy.specs.Tree.{Node, Free, Lent, Split, IsPlace, IsTree, free_in, lent_in}
-use Rattle.ms_buddy.proofs.TreeHalvesLemmas.{lower_place, size_of-halves, upper_place}
+use Rattle.ms_buddy.specs.Tree.{Node, Free, Lent, Split, IsRootPart, IsTree, free_in, lent_in}
+use Rattle.ms_buddy.proofs.TreeHalvesLemmas.{lower_part, size_of-halves, upper_part}
 use Rattle.ms_buddy.proofs.SplitLemmas.{at_split, lent_part_lies_in, lower_found, lower_lent, upper_found, upper_lent}
 use Rattle.ms_buddy.proofs.changes.CarveLemmas.{lower_is_free, upper_is_free}
 use Rattle.ms_buddy.proofs.WalkLemmas.{LiesIn, free_lies_in}
@@ -53,7 +53,7 @@ found_free level start (Split lower upper) part offset tree any within =
 -- A leaf that covers an offset, free or lent.
 pub record Covered (start offset : ℕ) (free : List Span) (lent : List LentLeaf) : Type 0 where
   pub part : Span
-  pub place : IsPlace part.level part.start
+  pub of_root : IsRootPart part.level part.start
   pub from : start ≤ part.start
   pub within : covers offset part ≡ true
   pub there : (list_any (is_same part) free ≡ true) ⊎ (is_lent lent part ≡ true)
@@ -68,29 +68,29 @@ pub right : (b c : Bool) → c ≡ true → (b || c) ≡ true
 right true c e = refl
 right false c e = e
 
-pub covered : (level start : ℕ) (node : Node) (offset : ℕ) → IsTree level node → IsPlace level start → start ≤ offset
+pub covered : (level start : ℕ) (node : Node) (offset : ℕ) → IsTree level node → IsRootPart level start → start ≤ offset
     → offset < start + size_of level → Covered start offset (free_in level start node) (lent_in level start node)
-covered level start Free offset tree place from below = record {
+covered level start Free offset tree of_root from below = record {
   part = span_at start level;
-  place = place;
+  of_root = of_root;
   from = omega arith;
   within = it_covers start offset (start + size_of level) from below;
   there = inl (itself start level);
 }
-covered level start (Lent owner front) offset tree place from below = record {
+covered level start (Lent owner front) offset tree of_root from below = record {
   part = span_at start level;
-  place = place;
+  of_root = of_root;
   from = omega arith;
   within = it_covers start offset (start + size_of level) from below;
   there = inr (itself start level);
 }
-covered level start (Split lower upper) offset tree place from below =
+covered level start (Split lower upper) offset tree of_root from below =
     let s = at_split level start lower upper tree in
     elim (cases_lt offset (start + size_of (level + 1))) [
       | inl low ↦
-          let half = covered (level + 1) start lower offset tree.2 (lower_place level start place s.low) from low in record {
+          let half = covered (level + 1) start lower offset tree.2 (lower_part level start of_root s.low) from low in record {
             part = half.part;
-            place = half.place;
+            of_root = half.of_root;
             from = half.from;
             within = half.within;
             there = elim half.there [
@@ -103,9 +103,9 @@ covered level start (Split lower upper) offset tree place from below =
           }
       | inr high ↦
           let half = covered (level + 1) (start + size_of (level + 1)) upper offset tree.3
-          (upper_place level start _ place s.low refl) high (omega (arith, below, size_of-halves level s.low)) in record {
+          (upper_part level start _ of_root s.low refl) high (omega (arith, below, size_of-halves level s.low)) in record {
             part = half.part;
-            place = half.place;
+            of_root = half.of_root;
             from = omega (arith, half.from);
             within = half.within;
             there = elim half.there [

@@ -19,7 +19,7 @@ use Rattle.ms_buddy.proofs.WalkLemmas.{LiesIn, all_joined, all_weaker, find-none
 use Rattle.ms_buddy.proofs.bits.NumberLemmas.{first_is_low, first_is_past, first_in_row, level_of_row, number_below, number_words}
 use Rattle.ms_buddy.proofs.bits.NumberLemmas.{same_number}
 use Rattle.ms_buddy.proofs.counts.CountLemmas.{number-cons, number-none}
-use Rattle.ms_buddy.proofs.bits.FreeNumberLemmas.{HasPart, IsSpanPlace, all_both, free_places, has_part, root_place}
+use Rattle.ms_buddy.proofs.bits.FreeNumberLemmas.{HasPart, IsRootSpan, all_both, free_spans, has_part, root_part}
 
 -- The parts stand in order of address.
 abbrev pub AreRising : List Span → Type 0
@@ -70,20 +70,20 @@ pub alike : (a b : Span) → a.start ≡ b.start → a.level ≡ b.level → a �
 alike a b e f = rw (e, f) refl
 
 -- The first part that passes is the one that starts lowest of those that do.
-first_found : (test : Span → Bool) (part : Span) (parts : List Span) → IsSpanPlace part → test part ≡ true
-    → AreRising parts → AllByRecursion IsSpanPlace parts
+first_found : (test : Span → Bool) (part : Span) (parts : List Span) → IsRootSpan part → test part ≡ true
+    → AreRising parts → AllByRecursion IsRootSpan parts
     → AllByRecursion (λ other. test other ≡ true → part.start ≤ other.start) parts
     → 0 < count_of_number (number_of part) parts → find test parts ≡ Some part
-first_found test part [] place passes rising places least some = absurd (omega (arith, some, number-none (number_of part)))
-first_found test part (first ∷ parts) place passes rising places least some = elim (test first) as (λ b.
+first_found test part [] of_root passes rising of_roots least some = absurd (omega (arith, some, number-none (number_of part)))
+first_found test part (first ∷ parts) of_root passes rising of_roots least some = elim (test first) as (λ b.
     test first ≡ b → cond b (Some first) (find test parts) ≡ Some part) [
       | true ↦ λ h. by_number (number_of first == number_of part) refl (least.0 h)
-      | false ↦ λ h. first_found test part parts place passes rising.1 places.1 least.1
+      | false ↦ λ h. first_found test part parts of_root passes rising.1 of_roots.1 least.1
           (later (not_first (number_of first == number_of part) refl h))
     ] refl
   where
     same : number_of first ≡ number_of part → first ≡ part
-    same e = let both = same_number first part places.0 place e in alike first part both.1 both.0
+    same e = let both = same_number first part of_roots.0 of_root e in alike first part both.1 both.0
 
     later : (number_of first == number_of part) ≡ false → 0 < count_of_number (number_of part) parts
     later e =
@@ -93,15 +93,15 @@ first_found test part (first ∷ parts) place passes rising places least some = 
         one_if b = cond b 1 0
 
     has_later : 0 < count_of_number (number_of part) parts
-        → HasPart (number_of part) (λ other. (first.start < other.start) × IsSpanPlace other)
+        → HasPart (number_of part) (λ other. (first.start < other.start) × IsRootSpan other)
     has_later h =
-        has_part (number_of part) (λ other. (first.start < other.start) × IsSpanPlace other) parts
-        (all_both (λ other. first.start < other.start) IsSpanPlace parts rising.0 places.1) h
+        has_part (number_of part) (λ other. (first.start < other.start) × IsRootSpan other) parts
+        (all_both (λ other. first.start < other.start) IsRootSpan parts rising.0 of_roots.1) h
 
-    not_below : HasPart (number_of part) (λ other. (first.start < other.start) × IsSpanPlace other)
+    not_below : HasPart (number_of part) (λ other. (first.start < other.start) × IsRootSpan other)
         → part.start ≤ first.start → ⊥
     not_below has h =
-        omega (arith, has.holds.0, h, (same_number has.part part has.holds.1 place has.is).1)
+        omega (arith, has.holds.0, h, (same_number has.part part has.holds.1 of_root has.is).1)
 
     by_number : (b : Bool) → (number_of first == number_of part) ≡ b → part.start ≤ first.start → Some first ≡ Some part
     by_number true e h = ap Some (same (eqb-true (number_of first) (number_of part) e))
@@ -124,10 +124,10 @@ of_from level from part e = split part.level level from part.start e
 
 -- The number of a free leaf that counts is not below the lowest bit's.
 numbered : (node : Node) (words : List ℕ) → IsTree 0 node → AreFreeBits words (free_in 0 0 node)
-    → AllByRecursion (λ part. IsSpanPlace part × (0 < bit_of words (number_of part))) (free_in 0 0 node)
+    → AllByRecursion (λ part. IsRootSpan part × (0 < bit_of words (number_of part))) (free_in 0 0 node)
 numbered node words tree are =
-    all_both IsSpanPlace (λ part. 0 < bit_of words (number_of part)) (free_in 0 0 node)
-    (free_places 0 0 node tree root_place)
+    all_both IsRootSpan (λ part. 0 < bit_of words (number_of part)) (free_in 0 0 node)
+    (free_spans 0 0 node tree root_part)
     (all_weaker (λ part. 0 < count_of_number (number_of part) (free_in 0 0 node))
     (λ part. 0 < bit_of words (number_of part)) (λ part h. omega (arith, h, are (number_of part))) (free_in 0 0 node)
     (each_counted (free_in 0 0 node)))
@@ -137,35 +137,35 @@ abbrev pub first_from : ℕ → ℕ → ℕ
 first_from level from = (524288 + from + (size_of level - 1)) / size_of level
 
 -- The numbers of parts of a level.
-not_before : (level from : ℕ) (part : Span) → IsSpanPlace part → part.level ≡ level → from ≤ part.start
+not_before : (level from : ℕ) (part : Span) → IsRootSpan part → part.level ≡ level → from ≤ part.start
     → first_from level from ≤ number_of part
-not_before level from part place e h =
-    subst (λ (l : ℕ). first_from l from ≤ number_of part) e (first_is_low part.level from part.start place h)
+not_before level from part of_root e h =
+    subst (λ (l : ℕ). first_from l from ≤ number_of part) e (first_is_low part.level from part.start of_root h)
 
-not_before_start : (level from : ℕ) (part : Span) → IsSpanPlace part → part.level ≡ level
+not_before_start : (level from : ℕ) (part : Span) → IsRootSpan part → part.level ≡ level
     → first_from level from ≤ number_of part → from ≤ part.start
-not_before_start level from part place e h =
-    first_is_past part.level from part.start place (subst (λ (l : ℕ). first_from l from ≤ number_of part) (sym e) h)
+not_before_start level from part of_root e h =
+    first_is_past part.level from part.start of_root (subst (λ (l : ℕ). first_from l from ≤ number_of part) (sym e) h)
 
-words_of_number : (level : ℕ) (part : Span) → IsSpanPlace part → part.level ≡ level
+words_of_number : (level : ℕ) (part : Span) → IsRootSpan part → part.level ≡ level
     → number_of part * size_of level ≡ 524288 + part.start
-words_of_number level part place e =
+words_of_number level part of_root e =
     subst (λ (l : ℕ). number_of part * size_of l ≡ 524288 + part.start) e
-    (number_words part.level part.start place)
+    (number_words part.level part.start of_root)
 
-in_row : (level : ℕ) (part : Span) → IsSpanPlace part → part.level ≡ level → number_of part < 2 * 2 ^ level
-in_row level part place e =
-    subst (λ (l : ℕ). number_of part < 2 * 2 ^ l) e (number_below part.level part.start place)
+in_row : (level : ℕ) (part : Span) → IsRootSpan part → part.level ≡ level → number_of part < 2 * 2 ^ level
+in_row level part of_root e =
+    subst (λ (l : ℕ). number_of part < 2 * 2 ^ l) e (number_below part.level part.start of_root)
 
 -- Each free leaf is a part, and its bit is set.
 abbrev IsNumbered : List ℕ → Span → Type 0
-IsNumbered words part = IsSpanPlace part × (0 < bit_of words (number_of part))
+IsNumbered words part = IsRootSpan part × (0 < bit_of words (number_of part))
 
 -- A free leaf of the level that counts is not below one with the lowest number.
-not_lower : (words : List ℕ) (level from number : ℕ) (part other : Span) → IsSpanPlace part → part.level ≡ level
+not_lower : (words : List ℕ) (level from number : ℕ) (part other : Span) → IsRootSpan part → part.level ≡ level
     → number_of part ≡ number → IsNextSet words (first_from level from) (2 * 2 ^ level) number
     → IsNumbered words other → is_of_from level from other ≡ true → part.start ≤ other.start
-not_lower words level from number part other place e is next numbered passes =
+not_lower words level from number part other of_root e is next numbered passes =
     let of = of_from level from other passes in
     elim (cases_lt (number_of other) number) [
       | inl below ↦ absurd (omega (
@@ -177,7 +177,7 @@ not_lower words level from number part other place e is next numbered passes =
         arith,
         mul-le-mul_right (size_of level) past,
         words_of_number level other numbered.0 of.0,
-        words_of_number level part place e,
+        words_of_number level part of_root e,
         ap (λ (n : ℕ). n * size_of level) is,
       )
     ]
@@ -188,16 +188,16 @@ pub found_lowest : (node : Node) (words : List ℕ) (level from number : ℕ) (p
     → IsNextSet words (first_from level from) (2 * 2 ^ level) number → part.level ≡ level
     → 524288 + part.start ≡ number * size_of level → Some part ≡ find (is_of_from level from) (free_in 0 0 node)
 found_lowest node words level from number part tree are low next of_level starts =
-    sym (first_found (is_of_from level from) part (free_in 0 0 node) place passes (free_rising 0 0 node tree)
-    (all_weaker (IsNumbered words) IsSpanPlace (λ other h. h.0) (free_in 0 0 node) (numbered node words tree are))
+    sym (first_found (is_of_from level from) part (free_in 0 0 node) of_root passes (free_rising 0 0 node tree)
+    (all_weaker (IsNumbered words) IsRootSpan (λ other h. h.0) (free_in 0 0 node) (numbered node words tree are))
     (all_weaker (IsNumbered words) (λ other. is_of_from level from other ≡ true → part.start ≤ other.start)
-    (λ other h. not_lower words level from number part other place of_level is next h) (free_in 0 0 node)
+    (λ other h. not_lower words level from number part other of_root of_level is next h) (free_in 0 0 node)
     (numbered node words tree are))
     (omega (arith, are number, next.set, ap (λ (n : ℕ). count_of_number n (free_in 0 0 node)) is)))
   where
-    has : HasPart number IsSpanPlace
-    has = has_part number IsSpanPlace (free_in 0 0 node)
-        (all_weaker (IsNumbered words) IsSpanPlace (λ other h. h.0) (free_in 0 0 node) (numbered node words tree are))
+    has : HasPart number IsRootSpan
+    has = has_part number IsRootSpan (free_in 0 0 node)
+        (all_weaker (IsNumbered words) IsRootSpan (λ other h. h.0) (free_in 0 0 node) (numbered node words tree are))
         (omega (arith, are number, next.set))
 
     level_is : has.part.level ≡ level
@@ -212,15 +212,15 @@ found_lowest node words level from number part tree are low next of_level starts
       ap (λ (n : ℕ). n * size_of level) has.is,
     )) (level_is ∙ sym of_level)
 
-    place : IsSpanPlace part
-    place = subst IsSpanPlace same has.holds
+    of_root : IsRootSpan part
+    of_root = subst IsRootSpan same has.holds
 
     is : number_of part ≡ number
     is = ap number_of (sym same) ∙ has.is
 
     passes : is_of_from level from part ≡ true
     passes = test part.level level from part.start of_level
-        (not_before_start level from part place of_level (omega (arith, is, next.low)))
+        (not_before_start level from part of_root of_level (omega (arith, is, next.low)))
       where
         test : (a b c d : ℕ) → a ≡ b → c ≤ d → ((a == b) && nat_le c d) ≡ true
         test a b c d e h = grind (arith, nat_tests)

@@ -10,16 +10,16 @@ use Rattle.ms_base.proofs.free.FreeLemmas.{IsFreeWithin, listed_are_free}
 use Rattle.ms_base.proofs.free.HalvesLemmas.{words_over}
 use Rattle.ms_buddy.specs.Leaves.{LentLeaf, chunk_of, free_of, from_on}
 use Rattle.ms_buddy.specs.Row.{AreSmaller, AreWithin, IsRow, Meets}
-use Rattle.ms_buddy.specs.Tree.{IsPlace}
-use Rattle.ms_buddy.proofs.TreeHalvesLemmas.{lower_place, size_of-halves, size_of-some, upper_place}
+use Rattle.ms_buddy.specs.Tree.{IsRootPart}
+use Rattle.ms_buddy.proofs.TreeHalvesLemmas.{lower_part, size_of-halves, size_of-some, upper_part}
 use Rattle.ms_buddy.proofs.WalkLemmas.{all_weaker}
-use Rattle.ms_buddy.proofs.bits.FreeNumberLemmas.{root_place}
+use Rattle.ms_buddy.proofs.bits.FreeNumberLemmas.{root_part}
 use Rattle.ms_buddy.proofs.searches.FromLemmas.{none_from_on}
 
 -- What is known of the next part, and of those behind it.
 pub record IsNext (number end : ℕ) (levels : List ℕ) (level at : ℕ) (free : List Span) : Type 0 where
   pub low : number + length levels ≤ level
-  pub place : IsPlace level at
+  pub of_root : IsRootPart level at
   pub within : AreWithin level at free
   pub rest : IsRow number end levels (at + size_of level) free
 
@@ -28,14 +28,14 @@ pub popped : (number end : ℕ) (levels : List ℕ) (level at : ℕ) (free : Lis
 popped number end [] level at free row =
     let same : end - size_of level ≡ at = sym row.4 in record {
       low = omega (arith, row.0);
-      place = subst (IsPlace level) same row.2;
+      of_root = subst (IsRootPart level) same row.2;
       within = subst (λ (n : ℕ). AreWithin level n free) same row.3;
       rest = omega (arith, row.1, same);
     }
 popped number end (first ∷ levels) level at free row =
     let more = popped (number + 1) (end - size_of first) levels level at free row.4 in record {
       low = omega (arith, more.low);
-      place = more.place;
+      of_root = more.of_root;
       within = more.within;
       rest = (row.0, row.1, row.2, row.3, more.rest);
     }
@@ -46,7 +46,7 @@ pushed number end [] level at free next =
     let same : at ≡ end - size_of level = omega (arith, next.rest) in (
       omega (arith, next.low),
       omega (arith, next.rest),
-      subst (IsPlace level) same next.place,
+      subst (IsRootPart level) same next.of_root,
       subst (λ (n : ℕ). AreWithin level n free) same next.within,
       same,
     )
@@ -58,7 +58,7 @@ pushed number end (first ∷ levels) level at free next =
       rest.3,
       pushed (number + 1) (end - size_of first) levels level at free (record {
         low = omega (arith, next.low);
-        place = next.place;
+        of_root = next.of_root;
         within = next.within;
         rest = rest.4;
       }),
@@ -71,13 +71,13 @@ pub halved : (levels : List ℕ) (level at : ℕ) (free : List Span) → IsNext 
 halved levels level at free next low are =
     pushed 0 root_words (levels ++ (level + 1) ∷ []) (level + 1) at free (record {
       low = omega (arith, next.low, length_push levels (level + 1));
-      place = lower_place level at next.place low;
+      of_root = lower_part level at next.of_root low;
       within = all_weaker (λ other. Meets level at other → level < other.level)
           (λ other. Meets (level + 1) at other → level + 1 ≤ other.level)
           (λ other less meets. omega (arith, less (omega (arith, meets.0, size_of-halves level low), meets.1))) free are;
       rest = pushed 0 root_words levels (level + 1) (at + size_of (level + 1)) free (record {
         low = omega (arith, next.low);
-        place = upper_place level at (at + size_of (level + 1)) next.place low refl;
+        of_root = upper_part level at (at + size_of (level + 1)) next.of_root low refl;
         within = all_weaker (λ other. Meets level at other → level < other.level)
             (λ other. Meets (level + 1) (at + size_of (level + 1)) other → level + 1 ≤ other.level)
             (λ other less meets. omega (arith, less (omega (arith, meets.0, size_of-halves level low), omega (arith, meets.1))))
@@ -88,7 +88,7 @@ halved levels level at free next low are =
 
 -- The row of a walk that begins.
 pub begun : (free : List Span) → IsRow 0 root_words (0 ∷ []) 0 free
-begun free = (omega arith, omega arith, root_place, none_below free, refl)
+begun free = (omega arith, omega arith, root_part, none_below free, refl)
   where
     none_below : (free : List Span) → AreWithin 0 0 free
     none_below [] = tt

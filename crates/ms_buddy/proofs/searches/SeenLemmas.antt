@@ -12,9 +12,9 @@ use Rattle.ms_buddy.specs.declared.leaf.Leaf.{Leaf}
 use Rattle.ms_buddy.specs.declared.leaf.Leaf.TheVariants.{Free as FreeLeaf, Lent as LentTo}
 use Rattle.ms_buddy.specs.Leaves.{LendsAt, LentLeaf, from_on, is_lent, is_same, span_at}
 use Rattle.ms_buddy.specs.Row.{AreSmaller, AreWithin, Meets}
-use Rattle.ms_buddy.specs.Tree.{Node, IsPlace, IsTree, free_in, lent_in}
+use Rattle.ms_buddy.specs.Tree.{Node, IsRootPart, IsTree, free_in, lent_in}
 use Rattle.ms_buddy.proofs.TreeHalvesLemmas.{mod-past, size_of-some}
-use Rattle.ms_buddy.proofs.bits.FreeNumberLemmas.{IsSpanPlace}
+use Rattle.ms_buddy.proofs.bits.FreeNumberLemmas.{IsRootSpan}
 use Rattle.ms_buddy.proofs.changes.CarvedLemmas.{clash}
 use Rattle.ms_buddy.proofs.searches.CoverLemmas.{found_free, free_or_lent, it_covers, left, right}
 use Rattle.ms_buddy.proofs.searches.FoundLemmas.{AreRising, alike}
@@ -103,14 +103,14 @@ same_start a b s e f h k = elim (cases_lt a b) [
         omega (arith, k, subst (λ (n : ℕ). n % s ≡ b - a) back (mod-past a (b - a) s e h), f)
 
 -- The free leaves that meet a part that isn't one of them are smaller.
-pub smaller : (level start : ℕ) (free : List Span) → IsPlace level start → AllByRecursion IsSpanPlace free
+pub smaller : (level start : ℕ) (free : List Span) → IsRootPart level start → AllByRecursion IsRootSpan free
     → AreWithin level start free → list_any (is_same (span_at start level)) free ≡ false → AreSmaller level start free
-smaller level start free place places are none = all_of_listed _ _ (λ other any meets.
+smaller level start free of_root of_roots are none = all_of_listed _ _ (λ other any meets.
     elim (cases_eq other.level level) [
       | inl same ↦
-          let there = all_listed IsSpanPlace free other places any in
+          let there = all_listed IsRootSpan free other of_roots any in
           let begins : other.start ≡ start = same_start other.start start (size_of level)
-          (subst (λ (l : ℕ). other.start % size_of l ≡ 0) same there.aligned) place.aligned meets.0
+          (subst (λ (l : ℕ). other.start % size_of l ≡ 0) same there.aligned) of_root.aligned meets.0
           (subst (λ (l : ℕ). start < other.start + size_of l) same meets.1) in
           absurd (clash _ (subst (λ (p : Span). list_any (is_same p) free ≡ true)
           (alike other (span_at start level) begins same) any) none)
@@ -122,17 +122,17 @@ smaller level start free place places are none = all_of_listed _ _ (λ other any
     past a b h n = omega (arith, n)
 
 -- None is smaller than a part of the smallest size.
-pub smallest_seen : (start : ℕ) (free : List Span) → AllByRecursion IsSpanPlace free → AreSmaller highest_level start free
+pub smallest_seen : (start : ℕ) (free : List Span) → AllByRecursion IsRootSpan free → AreSmaller highest_level start free
     → from_on start free ≡ from_on (start + size_of highest_level) free
-smallest_seen start free places are = none_between start (start + size_of highest_level) free (omega arith)
+smallest_seen start free of_roots are = none_between start (start + size_of highest_level) free (omega arith)
     (all_of_listed _ _ (λ other any from below. omega (
       arith,
-      (all_listed IsSpanPlace free other places any).level_fits,
+      (all_listed IsRootSpan free other of_roots any).level_fits,
       all_listed (λ other. Meets highest_level start other → highest_level < other.level) free other are any
           (below, omega (arith, from, size_of-some other.level)),
     )))
 
--- What stands at a place of its own level is lent.
+-- What stands at an entry of its own level is lent.
 pub lends_part : (lent : List LentLeaf) (level start : ℕ) (leaf : Leaf) → LendsAt lent level start leaf
     → IsTrue (is_lent lent (span_at start level))
 lends_part lent level start FreeLeaf lends = absurd lends

@@ -3,8 +3,8 @@
 //!     Known   a block that is given back is looked up, and is else refused
 //!     Bare    whoever gives it back owes that it is live
 //!
-//! Over the pool that a seat has they are opened and closed, and take chunks; without it a block has
-//! its place in their own. Only `take_hosted` and `place_hosted` take memory.
+//! Over the pool that a seat has they are opened and closed, and take chunks; without it a block is
+//! placed in their own chunks. Only `take_hosted` and `place_hosted` take memory.
 ghost use Rattle.std.specs.Prelude.{◌≡◌, Err, IfOk, IfErr, OnErr, []};
 ghost use Rattle.ms_arena.specs.Arena.{account_of, PlaceRefused};
 ghost use Rattle.ms_shared.specs.LockCalls.{OpenedBothHeld, ClosedBothHeld};

@@ -179,7 +179,7 @@ fn allocate_over(
         None => (held, Reply::Refused(Refusal::NoLoader)),
         Some(loader) => {
             let (held, answer) = ask_pool(shared, held, loader, space, block, words);
-            (held, tell_block(answer))
+            (held, block_reply(answer))
         }
     }
 }
@@ -207,7 +207,7 @@ fn ask_pool(
 }
 
 /// Returns what an allocation over the pool came to.
-pub(super) fn tell_block(answer: Result<Block, Refusal>) -> Reply
+pub(super) fn block_reply(answer: Result<Block, Refusal>) -> Reply
     ensures { result ≡ block_told answer }
 {
     match answer {
@@ -236,11 +236,11 @@ fn place(loader: &mut Loader, space: Space, block: u32, words: u64) -> Option<Re
     ensures { AnswersAlone space block words loader.old result loader.new }
 {
     let mut source = NoChunks::one();
-    tell_alone(loader.allocate(&mut source, space, block, words))
+    alone_reply(loader.allocate(&mut source, space, block, words))
 }
 
 /// Returns what a loader answers without the pool: none where it asked for a chunk.
-fn tell_alone(answer: Result<Block, Refusal>) -> Option<Reply>
+fn alone_reply(answer: Result<Block, Refusal>) -> Option<Reply>
     ensures { result ≡ alone_told answer }
 {
     match answer {

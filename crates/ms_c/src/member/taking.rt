@@ -12,7 +12,7 @@ ghost use Rattle.ms_c.specs.Taking.{ServesAny, TakesAny, TakesAlone, AnswersOwn,
 use super::Member;
 use super::arenas::{Arenas, give};
 use super::hosted::{Hosted, close_hosted, give_bare, open_hosted, place_hosted, take_hosted};
-use super::loading::tell_block;
+use super::loading::block_reply;
 use ms_base::{Block, Kind, Refusal, Reply, Space};
 use ms_shared::{HeldSeat, SharedPool};
 use std::alloc::Global;
@@ -125,7 +125,7 @@ fn take_any(
         None => (held, Reply::Refused(Refusal::NoLoader)),
         Some(arenas) => {
             let (held, answer) = take_hosted(shared, held, arenas, space, words);
-            (held, tell_block(answer))
+            (held, block_reply(answer))
         }
     }
 }
@@ -144,11 +144,11 @@ fn place_alone(arenas: &mut Option<Hosted>, space: Space, words: u64) -> Option<
 fn place_own(arenas: &mut Hosted, space: Space, words: u64) -> Option<Reply>
     ensures { AnswersOwn space words arenas.old result arenas.new }
 {
-    tell_placed(place_hosted(arenas, space, words))
+    placed_reply(place_hosted(arenas, space, words))
 }
 
 /// Returns what an allocation without the pool came to: none where there was no place.
-fn tell_placed(answer: Result<Option<Block>, Refusal>) -> Option<Reply>
+fn placed_reply(answer: Result<Option<Block>, Refusal>) -> Option<Reply>
     ensures { result ≡ placed_told answer }
 {
     match answer {

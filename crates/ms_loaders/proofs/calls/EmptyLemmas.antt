@@ -15,7 +15,7 @@ use Rattle.ms_base.specs.Interval.{lies_in}
 use Rattle.ms_base.specs.Names.{AreNamed}
 use Rattle.ms_base.proofs.machine.GoodLemmas.{empty_is_sound}
 use Rattle.ms_pool.specs.Account.{AccountState, AreChunks}
-use Rattle.ms_arena.specs.Raw.{RawView, IsNewRaw, Holds, RunIsThere}
+use Rattle.ms_arena.specs.Raw.{RawArenaView, IsNewRaw, Holds, RunIsThere}
 use Rattle.ms_loaders.specs.Loader.{new_loader}
 use Rattle.ms_loaders.specs.LoaderInside.{IsArena, IsLoader, blocks_of, named_runs, view_of, words_in}
 use Rattle.ms_loaders.specs.Naming.{BlockNames}
@@ -26,7 +26,7 @@ pub nothing_lent : (space : Space) → AreChunks space []
 nothing_lent space = search rules
 
 -- An arena with nothing is sound, and holds no block.
-pub nothing_held : (account : AccountState) (kind : Kind) (raw : RawView) → IsNewRaw account kind raw → Holds raw []
+pub nothing_held : (account : AccountState) (kind : Kind) (raw : RawArenaView) → IsNewRaw account kind raw → Holds raw []
 nothing_held account kind raw new = record {
   chunks = subst (λ (books : ArenaState). AreChunks raw.space books.chunks) (sym new.books) (nothing_lent raw.space);
   sound = subst (λ (books : ArenaState). IsSound books []) (sym new.books) empty_is_sound;
@@ -35,7 +35,7 @@ nothing_held account kind raw new = record {
   there = All-from_recursion (RunIsThere raw.words) [] tt;
 }
 
-its_arena : (space : Space) (account : AccountState) (kind is : Kind) (raw : RawView) (names : List (ℕ × Block))
+its_arena : (space : Space) (account : AccountState) (kind is : Kind) (raw : RawArenaView) (names : List (ℕ × Block))
     → account.space ≡ space → kind ≡ is → names ≡ [] → IsNewRaw account kind raw → IsArena space is names raw
 its_arena space account kind is raw names space_is kind_is none new = record {
   space_is = new.space ∙ space_is;
@@ -43,7 +43,7 @@ its_arena space account kind is raw names space_is kind_is none new = record {
   holds = subst (λ (l : List (ℕ × Block)). Holds raw (named_runs space l)) (sym none) (nothing_held account kind raw new);
 }
 
-module _ (account class_account : AccountState) (kind : Kind) (arena class_arena : RawView) (names : BlockNames)
+module _ (account class_account : AccountState) (kind : Kind) (arena class_arena : RawArenaView) (names : BlockNames)
     (is : IsNewRaw account kind arena) (class_is : IsNewRaw class_account kind class_arena) (none : names.entries ≡ [])
   where
     -- What its fields stand for is a new loader.
@@ -72,7 +72,7 @@ module _ (account class_account : AccountState) (kind : Kind) (arena class_arena
     }
 
 -- An arena that holds no chunk has no live block.
-nothing_live : (raw : RawView) (runs : List (ℕ × ℕ)) → Holds raw runs → raw.books.chunks ≡ [] → runs ≡ []
+nothing_live : (raw : RawArenaView) (runs : List (ℕ × ℕ)) → Holds raw runs → raw.books.chunks ≡ [] → runs ≡ []
 nothing_live raw [] holds none = refl
 nothing_live raw (run ∷ runs) holds none =
     absurd (both_ways (list_all (is_in_use raw.books) ((run ∷ runs) ++ raw.books.kept))
@@ -85,7 +85,7 @@ nothing_live raw (run ∷ runs) holds none =
         (zip chunks raw.books.tops)) none
 
 -- So where neither arena holds one, no block has a name.
-pub no_name : (arena class_arena : RawView) (names : List (ℕ × Block)) → Holds arena (named_runs NonClass names)
+pub no_name : (arena class_arena : RawArenaView) (names : List (ℕ × Block)) → Holds arena (named_runs NonClass names)
     → Holds class_arena (named_runs Class names) → arena.books.chunks ≡ [] → class_arena.books.chunks ≡ [] → names ≡ []
 no_name arena class_arena [] holds class_holds none class_none = refl
 no_name arena class_arena (entry ∷ names) holds class_holds none class_none =

@@ -26,7 +26,7 @@ use Rattle.ms_loaders.proofs.MappedLemmas.{found-mapped, named-mapped}
 use Rattle.ms_loaders.proofs.calls.NamedRunLemmas.{lies_there}
 use Rattle.ms_loaders.proofs.calls.ViewLemmas.{words_at}
 
--- Blocks that lie at one place are one.
+-- Blocks that start at one word are one.
 same_block : (x y : Block) → x.start ≡ y.start → x.words ≡ y.words → x ≡ y
 same_block x y e f =
     ap (λ (n : ℕ). let made : Block = record { start = n; words = x.words } in made) e

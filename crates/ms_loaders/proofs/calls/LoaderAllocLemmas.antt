@@ -16,7 +16,7 @@ use Rattle.ms_base.proofs.entries.EntryLemmas.{Gap, gap_at}
 use Rattle.ms_base.proofs.entries.NameLemmas.{rises_with_new}
 use Rattle.ms_pool.specs.Account.{AreChunks}
 use Rattle.ms_arena.specs.Alloc.{TakeRelation, GrowRelation}
-use Rattle.ms_arena.specs.Raw.{RawView, Gains, IsSameRaw, live_then, with_live}
+use Rattle.ms_arena.specs.Raw.{RawArenaView, Gains, IsSameRaw, live_then, with_live}
 use Rattle.ms_arena.specs.Words.{WordsView, Opens, value_at}
 use Rattle.ms_arena.proofs.HoldLemmas.{clear_of_new, holds_more, holds_same}
 use Rattle.ms_loaders.specs.Loader.{with_state, IsArenaOf, AfterAlloc, NameRefused, AllocatesBlock}
@@ -49,12 +49,12 @@ its_arena Class a its =
     record { owner = refl; space_is = its.class_arena.space_is; kind = its.class_arena.kind_is; books = refl }
 
 -- An arena that nobody asked is as it was.
-same_from : (old new : RawView) → new ≡ old → IsSameRaw old new
+same_from : (old new : RawArenaView) → new ≡ old → IsSameRaw old new
 same_from old new same = subst (IsSameRaw old) (sym same)
-    (record { rest = refl; words = record { values = λ word. refl; places = λ word. refl } })
+    (record { rest = refl; words = record { values = λ word. refl; positions = λ word. refl } })
 
 -- What becomes of a loader that asked its arena.
-record IsAsked (space : Space) (a : Inside) (name : ℕ) (arena : RawView) (answer : Result Block Refusal)
+record IsAsked (space : Space) (a : Inside) (name : ℕ) (arena : RawArenaView) (answer : Result Block Refusal)
     (new : Inside) : Type 0 where
   loader : IsLoader new
   follows : AfterAlloc space (view_of a) name (with_live arena (live_then [] answer)) answer (view_of new)
@@ -68,7 +68,7 @@ pub record IsAllocated {S : Type 0} (grew : GrowRelation S) (took : TakeRelation
   pub allocates : AllocatesBlock grew took policy space (view_of a) name words before answer (view_of new) after
   pub unchanged : OnErr answer (view_of new ≡ view_of a)
 
-module _ (space : Space) (a : Inside) (its : IsLoader a) (name : ℕ) (arena : RawView) (names : BlockNames) where
+module _ (space : Space) (a : Inside) (its : IsLoader a) (name : ℕ) (arena : RawArenaView) (names : BlockNames) where
   made : (block : Block) → named a.names.entries name ≡ None
       → names.entries ≡ with_new a.names.entries name block → Gains (arena_in space a) block arena
       → IsAsked space a name arena (Ok block) (with_arena_at space a arena names)
@@ -123,8 +123,8 @@ module _ (space : Space) (a : Inside) (its : IsLoader a) (name : ℕ) (arena : R
   none : (refusal : Refusal) → names.entries ≡ a.names.entries → IsSameRaw (arena_in space a) arena
       → IsAsked space a name arena (Err refusal) (with_arena_at space a arena names)
   none refusal names_are same = record {
-    loader = replaced space a arena names its (ap (λ (v : RawView). v.space) same.rest)
-        (ap (λ (v : RawView). v.kind) same.rest)
+    loader = replaced space a arena names its (ap (λ (v : RawArenaView). v.space) same.rest)
+        (ap (λ (v : RawArenaView). v.kind) same.rest)
         (rw names_are its.names)
         (holds_same (arena_in space a) arena (named_runs space names.entries) same
         (rw names_are (is_arena a its space).holds))
@@ -143,10 +143,10 @@ module _ (space : Space) (a : Inside) (its : IsLoader a) (name : ℕ) (arena : R
           ∙ ap (λ (w : WordsView). value_at w word) (sym (words_here space a)))
 
       view_same : view_of loader ≡ view_of a
-      view_same = changed_view space a arena names (view_of a).state.blocks (ap (λ (v : RawView). v.owner) same.rest)
-          (ap (λ (v : RawView). v.kind) same.rest) blocks
+      view_same = changed_view space a arena names (view_of a).state.blocks (ap (λ (v : RawArenaView). v.owner) same.rest)
+          (ap (λ (v : RawArenaView). v.kind) same.rest) blocks
           ∙ ap (λ (books : ArenaState). with_state (view_of a) (with_arena space (view_of a).state books))
-          (ap (λ (v : RawView). v.books) same.rest ∙ sym (books_of a space))
+          (ap (λ (v : RawArenaView). v.books) same.rest ∙ sym (books_of a space))
           ∙ ap (with_state (view_of a)) (same_arena space (view_of a).state)
 
   asked : {S : Type 0} (grew : GrowRelation S) (took : TakeRelation S) (policy : Policy) (words : ℕ) (before : S)

@@ -13,7 +13,7 @@ use Rattle.ms_base.specs.State.{ArenaState, LoaderState, arena_of, with_arena}
 use Rattle.ms_base.specs.Transition.{with_block, with_freed}
 use Rattle.ms_base.proofs.entries.EntryLemmas.{Split, split_at, rises_without}
 use Rattle.ms_base.proofs.arena.BlockLemmas.{not_in_other}
-use Rattle.ms_arena.specs.Raw.{RawView, FreesRun, Holds, RunIsThere, contents_at}
+use Rattle.ms_arena.specs.Raw.{RawArenaView, FreesRun, Holds, RunIsThere, contents_at}
 use Rattle.ms_arena.specs.Words.{WordsView, Writes, value_at}
 use Rattle.ms_arena.proofs.HoldLemmas.{IsClear, MayFree, clear_of_each, holds_fewer, holds_written, may_free}
 use Rattle.ms_arena.proofs.ContentsLemmas.{contents_long}
@@ -42,7 +42,7 @@ module _ (a : Inside) (its : IsLoader a) (space : Space) (name : ℕ) (block : B
   split : Split a.names.entries name block
   split = split_at a.names.entries name block found
 
-  abbrev arena : RawView
+  abbrev arena : RawArenaView
   arena = arena_in space a
 
   holds : Holds arena (named_runs space a.names.entries)
@@ -94,11 +94,11 @@ module _ (a : Inside) (its : IsLoader a) (space : Space) (name : ℕ) (block : B
   index_past index past = record { found = its_block; has = has; words_are = sym long; past = past }
 
   -- The block after a write.
-  pub word_is_written : (index value : ℕ) (new : RawView) → index < block.words
+  pub word_is_written : (index value : ℕ) (new : RawArenaView) → index < block.words
       → Writes arena.words (block.start + index) value new.words → new ≡ record arena { words = new.words }
       → IsDone a (WritesWord (view_of a).state name index value) (with_arena_at space a new a.names)
   word_is_written index value new within writes same = record {
-    loader = replaced space a new a.names its (ap (λ (v : RawView). v.space) same) (ap (λ (v : RawView). v.kind) same)
+    loader = replaced space a new a.names its (ap (λ (v : RawArenaView). v.space) same) (ap (λ (v : RawArenaView). v.kind) same)
         its.names
         (holds_written arena new (named_runs space a.names.entries) (block.start + index) value same writes holds) refl;
     done = record {
@@ -132,10 +132,10 @@ module _ (a : Inside) (its : IsLoader a) (space : Space) (name : ℕ) (block : B
 
       is : view_of loader ≡ with_state (view_of a) (with_block (view_of a).state name after)
       is = changed_view space a new a.names (with_changed (view_of a).state.blocks name after)
-          (ap (λ (v : RawView). v.owner) same) (ap (λ (v : RawView). v.kind) same) written
+          (ap (λ (v : RawArenaView). v.owner) same) (ap (λ (v : RawArenaView). v.kind) same) written
           ∙ ap (λ (books : ArenaState). with_state (view_of a)
           (with_arena space (with_block (view_of a).state name after) books))
-          (ap (λ (v : RawView). v.books) same ∙ sym (books_of a space))
+          (ap (λ (v : RawArenaView). v.books) same ∙ sym (books_of a space))
           ∙ ap (with_state (view_of a)) (same_arena space (with_block (view_of a).state name after))
 
   -- The block may be freed, and is then, its name being gone.
@@ -143,11 +143,11 @@ module _ (a : Inside) (its : IsLoader a) (space : Space) (name : ℕ) (block : B
   block_may_go = may_free arena block (named_runs space a.names.entries) (named_runs space split.before)
       (named_runs space split.after) holds runs_with
 
-  pub block_is_freed : (new : RawView) (names : BlockNames) → names.entries ≡ without a.names.entries name
+  pub block_is_freed : (new : RawArenaView) (names : BlockNames) → names.entries ≡ without a.names.entries name
       → FreesRun arena block new
       → IsDone a (FreesBlock (view_of a).state name) (with_arena_at space a new names)
   block_is_freed new names gone frees = record {
-    loader = replaced space a new names its (ap (λ (v : RawView). v.space) frees) (ap (λ (v : RawView). v.kind) frees)
+    loader = replaced space a new names its (ap (λ (v : RawArenaView). v.space) frees) (ap (λ (v : RawArenaView). v.kind) frees)
         (rw gone (rises_without a.names.entries name its.names))
         (holds_fewer arena new block (named_runs space a.names.entries) (named_runs space names.entries)
         (named_runs space split.before) (named_runs space split.after) holds frees runs_with
@@ -177,16 +177,16 @@ module _ (a : Inside) (its : IsLoader a) (space : Space) (name : ℕ) (block : B
       books : new.books ≡ record (arena_of space (view_of a).state) {
         kept = with_new (arena_of space (view_of a).state).kept block.start (length contents);
       }
-      books = ap (λ (v : RawView). v.books) frees
+      books = ap (λ (v : RawArenaView). v.books) frees
           ∙ ap (λ (n : ℕ). record arena.books { kept = with_new arena.books.kept block.start n }) (sym long)
           ∙ ap (λ (b : ArenaState). record b { kept = with_new b.kept block.start (length contents) })
           (sym (books_of a space))
 
       is : view_of loader ≡ with_state (view_of a) after
       is = changed_view space a new names (without (view_of a).state.blocks name)
-          (ap (λ (v : RawView). v.owner) frees) (ap (λ (v : RawView). v.kind) frees)
+          (ap (λ (v : RawArenaView). v.owner) frees) (ap (λ (v : RawArenaView). v.kind) frees)
           (ap (blocks_of (words_at loader)) gone
-          ∙ blocks_same space a new names (without a.names.entries name) (ap (λ (v : RawView). v.words) frees)
+          ∙ blocks_same space a new names (without a.names.entries name) (ap (λ (v : RawArenaView). v.words) frees)
           ∙ without-mapped (live_at (words_at a)) a.names.entries name)
           ∙ ap (λ (b : ArenaState). with_state (view_of a)
           (with_arena space (record (view_of a).state { blocks = without (view_of a).state.blocks name }) b)) books

@@ -9,7 +9,7 @@ use Rattle.ms_base.specs.Live.{LiveBlock}
 use Rattle.ms_base.specs.Spaces.{by_space, other_space}
 use Rattle.ms_base.specs.Names.{AreNamed}
 use Rattle.ms_base.specs.State.{LoaderState, arena_of, with_arena}
-use Rattle.ms_arena.specs.Raw.{RawView, Holds}
+use Rattle.ms_arena.specs.Raw.{RawArenaView, Holds}
 use Rattle.ms_arena.specs.Words.{WordsView, value_at}
 use Rattle.ms_loaders.specs.Loader.{LoaderView, with_state}
 use Rattle.ms_loaders.specs.Naming.{BlockNames}
@@ -30,16 +30,16 @@ err_then P Q (Ok a) each its = tt
 err_then P Q (Err e) each its = each e its
 
 -- The loader with another arena in a space, and other names.
-abbrev pub with_arena_at : Space → Inside → RawView → BlockNames → Inside
+abbrev pub with_arena_at : Space → Inside → RawArenaView → BlockNames → Inside
 with_arena_at space a arena names =
     record a { arena = by_space space arena a.arena; class_arena = by_space space a.class_arena arena; names = names }
 
-pub words_there : (space : Space) (a : Inside) (arena : RawView) (names : BlockNames)
+pub words_there : (space : Space) (a : Inside) (arena : RawArenaView) (names : BlockNames)
     → words_at (with_arena_at space a arena names) (other_space space) ≡ words_at a (other_space space)
 words_there NonClass a arena names = refl
 words_there Class a arena names = refl
 
-pub words_now : (space : Space) (a : Inside) (arena : RawView) (names : BlockNames)
+pub words_now : (space : Space) (a : Inside) (arena : RawArenaView) (names : BlockNames)
     → words_at (with_arena_at space a arena names) space ≡ arena.words
 words_now NonClass a arena names = refl
 words_now Class a arena names = refl
@@ -48,7 +48,7 @@ pub words_here : (space : Space) (a : Inside) → words_at a space ≡ (arena_in
 words_here NonClass a = refl
 words_here Class a = refl
 
-pub blocks_same : (space : Space) (a : Inside) (arena : RawView) (names : BlockNames) (entries : List (ℕ × Block))
+pub blocks_same : (space : Space) (a : Inside) (arena : RawArenaView) (names : BlockNames) (entries : List (ℕ × Block))
     → arena.words ≡ (arena_in space a).words
     → blocks_of (words_at (with_arena_at space a arena names)) entries ≡ blocks_of (words_at a) entries
 blocks_same space a arena names entries e =
@@ -57,7 +57,7 @@ blocks_same space a arena names entries e =
     (λ word. ap (λ (words : WordsView). value_at words word)
     (words_now space a arena names ∙ e ∙ sym (words_here space a)))
 
-pub replaced : (space : Space) (a : Inside) (arena : RawView) (names : BlockNames) → IsLoader a
+pub replaced : (space : Space) (a : Inside) (arena : RawArenaView) (names : BlockNames) → IsLoader a
     → arena.space ≡ (arena_in space a).space → arena.kind ≡ (arena_in space a).kind
     → AreNamed names.entries → Holds arena (named_runs space names.entries)
     → named_runs (other_space space) names.entries ≡ named_runs (other_space space) a.names.entries
@@ -86,7 +86,7 @@ replaced Class a arena names its space kind rises holds others = record {
 }
 
 -- A loader as it was, but for the arena of a space and its blocks.
-pub changed_view : (space : Space) (a : Inside) (arena : RawView) (names : BlockNames)
+pub changed_view : (space : Space) (a : Inside) (arena : RawArenaView) (names : BlockNames)
     (blocks : List (ℕ × LiveBlock)) → arena.owner ≡ (arena_in space a).owner
     → arena.kind ≡ (arena_in space a).kind → blocks_of (words_at (with_arena_at space a arena names)) names.entries
     ≡ blocks

@@ -5,7 +5,7 @@ use Rattle.ms_base.specs.declared.kind.Space.TheVariants.{NonClass, Class}
 use Rattle.ms_base.specs.Spaces.{by_space}
 use Rattle.ms_base.specs.State.{arena_of}
 use Rattle.ms_pool.specs.Account.{AreChunks}
-use Rattle.ms_arena.specs.Raw.{RawView, raw_account}
+use Rattle.ms_arena.specs.Raw.{RawArenaView, raw_account}
 use Rattle.ms_loaders.specs.Loader.{IsSoundView, account_in}
 use Rattle.ms_loaders.specs.LoaderInside.{WordsBy, live_at, words_in, IsLoader, IsArena, view_of}
 use Rattle.ms_loaders.specs.declared.loader.Loader.TheInside.{Inside}
@@ -13,7 +13,7 @@ use Rattle.ms_loaders.proofs.MappedLemmas.{rises-mapped}
 use Rattle.ms_loaders.proofs.calls.NamedRunLemmas.{runs_are}
 
 -- The arena of a space, and the words of both.
-abbrev pub arena_in : Space → Inside → RawView
+abbrev pub arena_in : Space → Inside → RawArenaView
 arena_in space a = by_space space a.arena a.class_arena
 
 abbrev pub words_at : Inside → WordsBy

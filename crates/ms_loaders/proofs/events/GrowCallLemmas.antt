@@ -61,16 +61,16 @@ module _ (space : Space) (old : Ledger) (loaders : List (ℕ × LoaderView)) (na
       (fits old loaders there.together.loaders_sound there.together.served space)) chunk total may_enlarge
 
   -- The chunk grows.
-  module _ (place : ℕ) (was greater : Chunk) (found : slice_get own place ≡ Some was) (starts : was.start ≡ start)
+  module _ (index : ℕ) (was greater : Chunk) (found : slice_get own index ≡ Some was) (starts : was.start ≡ start)
       (answered : grown (state_in space old) was total may_enlarge ≡ Ok greater) where
     abbrev after : Ledger
     after = with_grown old greater
 
     abbrev is : LoaderState
-    is = with_arena space loader.state (with_chunk_at (arena_of space loader.state) place greater)
+    is = with_arena space loader.state (with_chunk_at (arena_of space loader.state) index greater)
 
-    well : GrownWell old (account_in space loader) place was greater total may_enlarge
-    well = grown_well old (account_in space loader) place was greater total may_enlarge there.together.ledger_sound
+    well : GrownWell old (account_in space loader) index was greater total may_enlarge
+    well = grown_well old (account_in space loader) index was greater total may_enlarge there.together.ledger_sound
         served own_chunks found answered
 
     abbrev next : Machine
@@ -79,7 +79,7 @@ module _ (space : Space) (old : Ledger) (loaders : List (ℕ × LoaderView)) (na
     grows_is : GrowsChunk m space name start total may_enlarge greater next
     grows_is = record {
       loader = loader.state;
-      place = place;
+      index = index;
       was = was;
       asked = record { has = has; found = found; starts = starts };
       answer = grown_there was ∙ answered;
@@ -91,12 +91,12 @@ module _ (space : Space) (old : Ledger) (loaders : List (ℕ × LoaderView)) (na
         (good_with_greater space m name start total may_enlarge greater next
         (machine_is_good old loaders there.together) grows_is)
 
-    leaves : LeavesChanged space old after loaders loader (slice_set own place greater)
+    leaves : LeavesChanged space old after loaders loader (slice_set own index greater)
     leaves = record {
       own = well.served;
       keeps = grew_keeps old (account_in space loader) start total may_enlarge (Ok (span_of greater)) after
           there.together.ledger_sound served own_chunks (record {
-            place = place;
+            index = index;
             chunk = was;
             found = found;
             starts = starts;
@@ -110,10 +110,10 @@ module _ (space : Space) (old : Ledger) (loaders : List (ℕ × LoaderView)) (na
     }
 
     abbrev others : List (ℕ × LoaderView)
-    others = with_changed loaders name (with_chunks space loader (slice_set own place greater))
+    others = with_changed loaders name (with_chunks space loader (slice_set own index greater))
 
     together : AreTogether after others
-    together = together_changed space old after loaders name loader (slice_set own place greater) there.found
+    together = together_changed space old after loaders name loader (slice_set own index greater) there.found
         there.together leaves
 
     abbrev mid : Ledger
@@ -124,7 +124,7 @@ module _ (space : Space) (old : Ledger) (loaders : List (ℕ × LoaderView)) (na
 
     machine_is : machine_of after others ≡ next
     machine_is = machine_follows mid others together
-        ∙ ap machine_recommitted (machine_with old loaders name (with_chunks space loader (slice_set own place greater)))
+        ∙ ap machine_recommitted (machine_with old loaders name (with_chunks space loader (slice_set own index greater)))
 
     pub grows_chunk : IsEvent old loaders (growing space name start total may_enlarge) (lent greater) after others
     grows_chunk = record {
@@ -149,7 +149,7 @@ module _ (space : Space) (old : Ledger) (loaders : List (ℕ × LoaderView)) (na
       record {
         happens = record {
           loader = loader.state;
-          place = grew.place;
+          index = grew.index;
           was = grew.chunk;
           asked = record { has = has; found = grew.found; starts = grew.starts };
           cause = cause grew.chunk refusal new grew.after;
@@ -172,12 +172,12 @@ grows space old new loaders name loader start total may_enlarge (Ok span) accoun
       (subst (λ (a : AccountState). IsEvent old loaders (growing space name start total may_enlarge)
       (lent its.grew.after.0) (with_grown old its.grew.after.0)
       (with_changed loaders name (with_chunks space loader a.chunks))) (sym same)
-      (grows_chunk space old loaders name loader start total may_enlarge its.there its.grown.place its.grown.chunk
+      (grows_chunk space old loaders name loader start total may_enlarge its.there its.grown.index its.grown.chunk
       its.grew.after.0 its.grown.found its.grown.starts answered));
 }
   where
     one : its.grown.chunk ≡ its.grew.chunk
-    one = same_from_start (arena_of space loader.state).chunks its.grown.place its.grew.place its.grown.chunk
+    one = same_from_start (arena_of space loader.state).chunks its.grown.index its.grew.index its.grown.chunk
         its.grew.chunk ((own_sound old loaders name loader its.there.found its.there.together).chunks space).apart
         its.grown.found its.grew.found (its.grown.starts ∙ sym its.grew.starts)
 
@@ -185,12 +185,12 @@ grows space old new loaders name loader start total may_enlarge (Ok span) accoun
     answered = ap (λ (c : Chunk). grown (state_in space old) c total may_enlarge) one ∙ its.grew.after.1
 
     same : account ≡ record (account_in space loader) {
-      chunks = slice_set (arena_of space loader.state).chunks its.grown.place its.grew.after.0;
+      chunks = slice_set (arena_of space loader.state).chunks its.grown.index its.grew.after.0;
     }
     same = its.grown.after
         ∙ ap (λ (c : Chunk).
-        record (account_in space loader) { chunks = slice_set (arena_of space loader.state).chunks its.grown.place c })
-        (sym (well space old loaders name loader start total may_enlarge its.there its.grown.place its.grown.chunk
+        record (account_in space loader) { chunks = slice_set (arena_of space loader.state).chunks its.grown.index c })
+        (sym (well space old loaders name loader start total may_enlarge its.there its.grown.index its.grown.chunk
         its.grew.after.0 its.grown.found its.grown.starts answered).reaches)
 grows space old new loaders name loader start total may_enlarge (Err refusal) account its = record {
   answer = refused refusal;

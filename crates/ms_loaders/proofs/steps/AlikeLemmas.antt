@@ -57,7 +57,7 @@ module _ {S T : Type 0} (f : S → T) (grew : GrowRelation S) (took : TakeRelati
   serves_by : (was : ArenaView) (n : ℕ) (o : Option (ℕ × ArenaState)) (before : S) (answer : Result Block Refusal)
       (is : ArenaView) (after : S) → FindsPlace grew took policy was n o before answer is after
       → FindsPlace grew_there took_there policy was n o (f before) answer is (f after)
-  serves_by was n (Some place) before answer is after its = (its.0, its.1, ap f its.2)
+  serves_by was n (Some index) before answer is after its = (its.0, its.1, ap f its.2)
   serves_by was n None before answer is after its =
       asks_by was n (current was.books) (asks_growth was.kind was.space was.books (current was.books) n) before answer
       is after its

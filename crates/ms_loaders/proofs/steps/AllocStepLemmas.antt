@@ -11,7 +11,7 @@ use Rattle.ms_base.specs.declared.step.Reply.{Reply}
 use Rattle.ms_base.specs.declared.step.Reply.TheVariants.{At, Refused}
 use Rattle.ms_base.specs.Live.{block_words}
 use Rattle.ms_base.specs.Names.{named, with_new, with_changed}
-use Rattle.ms_base.specs.Place.{last_place}
+use Rattle.ms_base.specs.Place.{last_index}
 use Rattle.ms_base.specs.State.{ArenaState, arena_of}
 use Rattle.ms_base.specs.Transition.{zeroed, Transition}
 use Rattle.ms_base.specs.Request.{alloc_in}
@@ -64,20 +64,20 @@ module _ (was is : ArenaView) (old new : Ledger) (sound : IsSoundLedger old) (se
   grown_leaves grown = record {
     own = subst (λ (l : List Chunk). Serves new (with_chunks (account_of was) l)) (sym grown.chunks)
         (subst (λ (l : Ledger). Serves l
-        (with_chunks (account_of was) (slice_set was.books.chunks (last_place was.books) grown.greater)))
+        (with_chunks (account_of was) (slice_set was.books.chunks (last_index was.books) grown.greater)))
         (sym grown.ledger) well.served);
     keeps = subst (Keeps was.owner old) (sym grown.ledger) (record {
       others = λ other differs.
           grown_keeps_others old (account_of was) grown.chunk grown.greater other sound served chunks
-          (contains_at was.books.chunks (last_place was.books) grown.chunk grown.at_it) well.start differs;
+          (contains_at was.books.chunks (last_index was.books) grown.chunk grown.at_it) well.start differs;
       given = refl;
       opened = refl;
       limits = refl;
     });
   }
     where
-      well : GrownWell old (account_of was) (last_place was.books) grown.chunk grown.greater grown.total grown.may
-      well = grown_well old (account_of was) (last_place was.books) grown.chunk grown.greater grown.total grown.may
+      well : GrownWell old (account_of was) (last_index was.books) grown.chunk grown.greater grown.total grown.may
+      well = grown_well old (account_of was) (last_index was.books) grown.chunk grown.greater grown.total grown.may
           sound served chunks grown.at_it grown.grows
 
   lent_leaves : (n : ℕ) → LentBy was.space was.owner n old new was.books is.books

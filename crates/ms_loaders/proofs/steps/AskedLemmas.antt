@@ -11,7 +11,7 @@ use Rattle.ms_base.specs.Level.{level_that_holds}
 use Rattle.ms_base.specs.Held.{words_of}
 use Rattle.ms_base.specs.Live.{block_words}
 use Rattle.ms_base.specs.State.{ArenaState}
-use Rattle.ms_base.specs.Place.{placed, current, last_place}
+use Rattle.ms_base.specs.Place.{placed, current, last_index}
 use Rattle.ms_base.specs.Asks.{asks_growth, wanted_level, total_asked, may_enlarge}
 use Rattle.ms_base.specs.PoolSteps.{grown}
 use Rattle.ms_pool.specs.Lending.{chunk_at}
@@ -85,7 +85,7 @@ module _ (was : ArenaView) (words : ℕ) (ledger : Ledger) (answer : Result Bloc
       at_it = at_it;
       grows = grows;
       chunks = ap (λ (v : ArenaView). v.books.chunks) follows.2
-          ∙ ap (λ (c : Chunk). slice_set was.books.chunks (last_place was.books) c)
+          ∙ ap (λ (c : Chunk). slice_set was.books.chunks (last_index was.books) c)
           (sym (grown_is (state_in was.space ledger) chunk its.after.0 (total_asked was.books (block_words words))
           (may_enlarge was.kind was.space was.books chunk) grows));
       ledger = follows.0 ∙ its.after.3;
@@ -93,7 +93,7 @@ module _ (was : ArenaView) (words : ℕ) (ledger : Ledger) (answer : Result Bloc
   })
     where
       same : its.chunk ≡ chunk
-      same = one_there was.books.chunks its.place (last_place was.books) its.chunk chunk apart its.found at_it
+      same = one_there was.books.chunks its.index (last_index was.books) its.chunk chunk apart its.found at_it
           its.starts
 
       grows : grown (state_in was.space ledger) chunk (total_asked was.books (block_words words))
@@ -111,16 +111,16 @@ module _ (was : ArenaView) (words : ℕ) (ledger : Ledger) (answer : Result Bloc
   from_asks None true at_it its = from_takes ledger.tallies ledger refl its
   from_asks None false at_it its = from_takes ledger.tallies ledger refl its
 
-  from_place : (o : Option (ℕ × ArenaState)) → placed was.books (block_words words) ≡ o
+  from_index : (o : Option (ℕ × ArenaState)) → placed was.books (block_words words) ≡ o
       → FindsPlace GrewAtAll TookAtAll ledger.limits.policy was (block_words words) o ledger answer is after
       → Outcome was words ledger answer is after
-  from_place (Some place) at_it its = made _ its.0 refl (record {
+  from_index (Some index) at_it its = made _ its.0 refl (record {
     askable = askable;
     words_are = refl;
     how = inl
-        (ap (λ (v : ArenaView). v.books.chunks) its.1 ∙ placed_chunks was.books (block_words words) place at_it, its.2);
+        (ap (λ (v : ArenaView). v.books.chunks) its.1 ∙ placed_chunks was.books (block_words words) index at_it, its.2);
   })
-  from_place None at_it its =
+  from_index None at_it its =
       from_asks (current was.books) (asks_growth was.kind was.space was.books (current was.books) (block_words words))
       refl its
 
@@ -132,4 +132,4 @@ outcome was words ledger answer is after apart (inl refused) =
     subst (λ (a : Result Block Refusal). Outcome was words ledger a is after) (sym refused.answer_is)
     (record { ledger = record { tallies = ledger.tallies; is = refused.source }; cause = inl refused.cause })
 outcome was words ledger answer is after apart (inr its) =
-    from_place was words ledger answer is after apart its.0 (placed was.books (block_words words)) refl its.1
+    from_index was words ledger answer is after apart its.0 (placed was.books (block_words words)) refl its.1

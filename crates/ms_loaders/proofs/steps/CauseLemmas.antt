@@ -92,12 +92,12 @@ module _ (space : Space) (old : Ledger) (loaders : List (ℕ × LoaderView)) (na
       → IsServable (machine_of old loaders) name block words
   servable unused askable = record { lacks = lacks unused; some = askable.some; fits = askable.fits }
 
-  by_place : (refusal : Refusal) → named was.state.blocks block ≡ None → PlaceRefused words refusal
+  by_index : (refusal : Refusal) → named was.state.blocks block ≡ None → PlaceRefused words refusal
       → AllocCause (machine_of old loaders) space name block words refusal
-  by_place ZeroWords unused cause = (lacks unused, cause)
-  by_place TooLarge unused cause = (lacks unused, cause)
-  by_place OutOfMemory unused cause = servable unused cause
-  by_place _ unused cause = absurd cause
+  by_index ZeroWords unused cause = (lacks unused, cause)
+  by_index TooLarge unused cause = (lacks unused, cause)
+  by_index OutOfMemory unused cause = servable unused cause
+  by_index _ unused cause = absurd cause
 
   by_name : (refusal : Refusal) → NameRefused was block words refusal
       → AllocCause (machine_of old loaders) space name block words refusal
@@ -107,9 +107,9 @@ module _ (space : Space) (old : Ledger) (loaders : List (ℕ × LoaderView)) (na
         found = cause.0;
         has = record { loader_is = has_loader old loaders name was found; block_is = cause.1 };
       }
-  by_name ZeroWords cause = by_place ZeroWords cause.0 cause.1
-  by_name TooLarge cause = by_place TooLarge cause.0 cause.1
-  by_name OutOfMemory cause = by_place OutOfMemory cause.0 cause.1
+  by_name ZeroWords cause = by_index ZeroWords cause.0 cause.1
+  by_name TooLarge cause = by_index TooLarge cause.0 cause.1
+  by_name OutOfMemory cause = by_index OutOfMemory cause.0 cause.1
   by_name _ cause = absurd cause.1
 
   in_machine : (p m n : ℕ) → taken (pool_of space (machine_of old loaders)) p m n ≡ taken (state_in space old) p m n
@@ -180,7 +180,7 @@ alloc_is_refused space old new loaders name block words was is refusal found (in
 )
 alloc_is_refused space old new loaders name block words was is refusal found (inr asks) sound its = (
   elim how.cause [
-    | inl place ↦ by_place space old loaders name block words was found its refusal asks.unused place
+    | inl index ↦ by_index space old loaders name block words was found its refusal asks.unused index
     | inr take ↦ by_take space old loaders name block words was found its refusal asks.unused take.0
         (subst (λ (k : Kind). TakeCause (state_in space old)
         (wanted_level k space (arena_of space was.state) (block_words words)) (level_that_holds (block_words words))

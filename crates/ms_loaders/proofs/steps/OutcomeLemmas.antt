@@ -17,7 +17,7 @@ use Rattle.ms_base.specs.Level.{size_of, level_that_holds}
 use Rattle.ms_base.specs.Held.{words_of}
 use Rattle.ms_base.specs.Live.{block_words}
 use Rattle.ms_base.specs.State.{ArenaState, PoolState}
-use Rattle.ms_base.specs.Place.{placed, placed_in, place_at_top, best_fit, current, current_top, last_place, with_top}
+use Rattle.ms_base.specs.Place.{placed, placed_in, place_at_top, best_fit, current, current_top, last_index, with_top}
 use Rattle.ms_base.specs.Place.{with_used, retired_chunk}
 use Rattle.ms_base.specs.Asks.{wanted_level}
 use Rattle.ms_base.specs.PoolSteps.Causes.{meets_reserve_limit, meets_commit_limit, committed_count, node_limit, granules_needed}
@@ -85,7 +85,7 @@ pub record GrownBy (space : Space) (old new : Ledger) (before after : ArenaState
   pub may : Bool
   pub at_it : current before ≡ Some chunk
   pub grows : grown (state_in space old) chunk total may ≡ Ok greater
-  pub chunks : after.chunks ≡ slice_set before.chunks (last_place before) greater
+  pub chunks : after.chunks ≡ slice_set before.chunks (last_index before) greater
   pub ledger : new ≡ with_grown old greater
 
 -- Another chunk was lent.
@@ -172,17 +172,17 @@ grown_is pool chunk greater total may is =
     go false false true e = limited (parent_with_front pool chunk total) e
     go false false false e = absurd (cc)
 
--- Of chunks that are apart, those that start at one place are one.
-not_met : (run : ℕ × ℕ) (chunks : List Chunk) (place : ℕ) (chunk : Chunk) → slice_get chunks place ≡ Some chunk
+-- Of chunks that are apart, those that start at one word are one.
+not_met : (run : ℕ × ℕ) (chunks : List Chunk) (index : ℕ) (chunk : Chunk) → slice_get chunks index ≡ Some chunk
     → meets_any run (map words_of chunks) ≡ false
     → meet run.0 run.1 chunk.start (size_of chunk.level) ≡ false
-not_met run [] place chunk found clear = absurd (cc)
+not_met run [] index chunk found clear = absurd (cc)
 not_met run (c ∷ chunks) zero chunk found clear =
     let its : c ≡ chunk = cc in
     subst (λ (one : Chunk). meet run.0 run.1 one.start (size_of one.level) ≡ false) its
     (or_parts (meet run.0 run.1 c.start (size_of c.level)) (meets_any run (map words_of chunks)) clear).0
-not_met run (c ∷ chunks) (suc place) chunk found clear =
-    not_met run chunks place chunk found
+not_met run (c ∷ chunks) (suc index) chunk found clear =
+    not_met run chunks index chunk found
     (or_parts (meet run.0 run.1 c.start (size_of c.level)) (meets_any run (map words_of chunks)) clear).1
 
 starts_meet : (a b m n : ℕ) → a ≡ b → 1 ≤ m → 1 ≤ n → meet a m b n ≡ true
@@ -216,22 +216,22 @@ retired_chunks arena None = refl
 retired_chunks arena (Some chunk) = refl
 
 -- A placed block changes no chunk.
-pub placed_chunks : (arena : ArenaState) (n : ℕ) (place : ℕ × ArenaState) → placed arena n ≡ Some place
-    → place.1.chunks ≡ arena.chunks
-placed_chunks arena n place is = go (best_fit arena.kept n) is
+pub placed_chunks : (arena : ArenaState) (n : ℕ) (index : ℕ × ArenaState) → placed arena n ≡ Some index
+    → index.1.chunks ≡ arena.chunks
+placed_chunks arena n index is = go (best_fit arena.kept n) is
   where
-    at_top : (o : Option Chunk) → place_at_top arena o n ≡ Some place → place.1.chunks ≡ arena.chunks
+    at_top : (o : Option Chunk) → place_at_top arena o n ≡ Some index → index.1.chunks ≡ arena.chunks
     at_top None e = absurd (cc)
     at_top (Some chunk) e = pick (nat_le (current_top arena + n) chunk.front) e
       where
         pick : (b : Bool)
             → (if b then Some (chunk.start + current_top arena, with_top arena (current_top arena + n)) else None)
-            ≡ Some place → place.1.chunks ≡ arena.chunks
-        pick true e = let its : (chunk.start + current_top arena, with_top arena (current_top arena + n)) ≡ place =
+            ≡ Some index → index.1.chunks ≡ arena.chunks
+        pick true e = let its : (chunk.start + current_top arena, with_top arena (current_top arena + n)) ≡ index =
             cc in sym (ap (λ (one : ℕ × ArenaState). one.1.chunks) its)
         pick false e = absurd (cc)
 
-    go : (o : Option (ℕ × ℕ)) → placed_in arena o n ≡ Some place → place.1.chunks ≡ arena.chunks
-    go (Some run) e = let its : (run.0, with_used arena run n) ≡ place =
+    go : (o : Option (ℕ × ℕ)) → placed_in arena o n ≡ Some index → index.1.chunks ≡ arena.chunks
+    go (Some run) e = let its : (run.0, with_used arena run n) ≡ index =
         cc in sym (ap (λ (one : ℕ × ArenaState). one.1.chunks) its)
     go None e = at_top (current arena) e

@@ -18,7 +18,7 @@ use Rattle.ms_base.specs.Front.{front_for}
 use Rattle.ms_base.specs.Spaces.{by_space}
 use Rattle.ms_base.specs.Names.{named, with_changed}
 use Rattle.ms_base.specs.Live.{block_words}
-use Rattle.ms_base.specs.Place.{last_place}
+use Rattle.ms_base.specs.Place.{last_index}
 use Rattle.ms_base.specs.PoolSteps.{slots_with}
 use Rattle.ms_base.specs.State.{ArenaState, LoaderState, Machine, arena_of, chunks_held, slots_in, with_slots}
 use Rattle.ms_base.specs.State.{recommitted as machine_recommitted}
@@ -95,12 +95,12 @@ stays space old new loaders name n was is chunks same as_they good = record {
     machine : machine_of new (with_changed loaders name is) ≡ with_loader (machine_of old loaders) name is.state
     machine = ap (λ (l : Ledger). machine_of l (with_changed loaders name is)) same ∙ machine_with old loaders name is
 
--- A chunk is at a place of a list.
-set_same : (chunks : List Chunk) (place : ℕ) (chunk : Chunk) → slice_get chunks place ≡ Some chunk
-    → slice_set chunks place chunk ≡ chunks
-set_same [] place chunk found = absurd (cc)
+-- A chunk is at an index of a list.
+set_same : (chunks : List Chunk) (index : ℕ) (chunk : Chunk) → slice_get chunks index ≡ Some chunk
+    → slice_set chunks index chunk ≡ chunks
+set_same [] index chunk found = absurd (cc)
 set_same (c ∷ chunks) zero chunk found = let its : chunk ≡ c = cc in ap (λ (d : Chunk). d ∷ chunks) its
-set_same (c ∷ chunks) (suc place) chunk found = ap (λ (l : List Chunk). c ∷ l) (set_same chunks place chunk found)
+set_same (c ∷ chunks) (suc index) chunk found = ap (λ (l : List Chunk). c ∷ l) (set_same chunks index chunk found)
 
 -- What holds of all chunks of a space holds of a loader's.
 each_of_loader : (P : Chunk → Type 0) (space : Space) (m : Machine) (name : ℕ) (loader : LoaderState)
@@ -111,17 +111,17 @@ each_of_loader P space m name loader found all =
     All-middle_of P (chunks_held space split.before) (arena_of space loader).chunks (chunks_held space split.after)
     (rw (ap (chunks_held space) split.is ∙ chunks_split space split.before split.after name loader) at all)
 
-at_place : (P : Chunk → Type 0) (chunks : List Chunk) (place : ℕ) (chunk : Chunk) → AllByRecursion P chunks
-    → slice_get chunks place ≡ Some chunk → P chunk
-at_place P [] place chunk all found = absurd (cc)
-at_place P (c ∷ chunks) zero chunk all found = let its : c ≡ chunk = cc in subst P its all.0
-at_place P (c ∷ chunks) (suc place) chunk all found = at_place P chunks place chunk all.1 found
+at_index : (P : Chunk → Type 0) (chunks : List Chunk) (index : ℕ) (chunk : Chunk) → AllByRecursion P chunks
+    → slice_get chunks index ≡ Some chunk → P chunk
+at_index P [] index chunk all found = absurd (cc)
+at_index P (c ∷ chunks) zero chunk all found = let its : c ≡ chunk = cc in subst P its all.0
+at_index P (c ∷ chunks) (suc index) chunk all found = at_index P chunks index chunk all.1 found
 
-is_held : (space : Space) (old : Ledger) (loaders : List (ℕ × LoaderView)) (name : ℕ) (was : LoaderView) (place : ℕ)
+is_held : (space : Space) (old : Ledger) (loaders : List (ℕ × LoaderView)) (name : ℕ) (was : LoaderView) (index : ℕ)
     (chunk : Chunk) → AreTogether old loaders → named loaders name ≡ Some was
-    → slice_get (arena_of space was.state).chunks place ≡ Some chunk → Contains (held_in space old) chunk
-is_held space old loaders name was place chunk its found at_it =
-    at_place (Contains held) (arena_of space was.state).chunks place chunk
+    → slice_get (arena_of space was.state).chunks index ≡ Some chunk → Contains (held_in space old) chunk
+is_held space old loaders name was index chunk its found at_it =
+    at_index (Contains held) (arena_of space was.state).chunks index chunk
     (recursion_from_All (Contains held) (arena_of space was.state).chunks
     (each_of_loader (Contains held) space (machine_of old loaders) name was.state
     (has_loader old loaders name was found)
@@ -140,11 +140,11 @@ grows space old new loaders name n was is after found its now grown = record {
   slots = slots_in space m;
   changes = elim well.changes [
     | inl same ↦ inl (same_change before.chunks after.chunks (slots_in space m)
-        (grown.chunks ∙ ap (slice_set before.chunks (last_place before)) same
-        ∙ set_same before.chunks (last_place before) grown.chunk grown.at_it))
+        (grown.chunks ∙ ap (slice_set before.chunks (last_index before)) same
+        ∙ set_same before.chunks (last_index before) grown.chunk grown.at_it))
     | inr more ↦
         inr (inl (record {
-          place = last_place before;
+          index = last_index before;
           was = grown.chunk;
           is = grown.greater;
           found = grown.at_it;
@@ -178,7 +178,7 @@ grows space old new loaders name n was is after found its now grown = record {
     well : GrowsWell (state_in space old) grown.chunk grown.greater grown.total
     well = growing_keeps_the_limit (state_in space old) grown.chunk grown.greater grown.total grown.may
         (its.ledger_sound.spaces space)
-        (is_held space old loaders name was (last_place before) grown.chunk its found grown.at_it) grown.grows
+        (is_held space old loaders name was (last_index before) grown.chunk its found grown.at_it) grown.grows
 
 -- A chunk is lent.
 lends : (space : Space) (old new : Ledger) (loaders : List (ℕ × LoaderView)) (name n owner : ℕ) (was is : LoaderView)

@@ -1,4 +1,4 @@
-//! A loader in a box with its name: what stands at a place, so that what is moved is a pointer.
+//! A loader in a box with its name: what stands at a slot, so that what is moved is a pointer.
 ghost use Rattle.std.specs.Prelude.{◌≡◌, IfOk, IfErr, []};
 ghost use Rattle.std.specs.Borrow.{sem};
 ghost use Rattle.ms_base.specs.declared.kind.Space.TheVariants.{NonClass, Class};

@@ -10,7 +10,7 @@
 //! Only `reserve` takes memory; `note` takes none in the room that was made.
 
 use super::first_owner;
-use super::places::Places;
+use super::slots::Slots;
 use std::alloc::{AllocError, Global};
 use std::collections::HashMap;
 use std::marker::Model;
@@ -58,14 +58,14 @@ impl Owners {
     /// stand at their names no more are swept out first, and it is lengthened where not most of
     /// them were: so each note is looked at once in three that come. Takes memory.
     #[inline(always)]
-    pub(super) fn reserve(&mut self, owner: u32, places: &Places) -> Result<(), AllocError> {
+    pub(super) fn reserve(&mut self, owner: u32, slots: &Slots) -> Result<(), AllocError> {
         if !self.rises(owner) {
             return self.others.reserve(1);
         }
         if self.rising.len() < self.rising.capacity() {
             return Ok(());
         }
-        self.sweep(places);
+        self.sweep(slots);
         self.rising
             .reserve(self.rising.len().saturating_mul(3).max(1))
     }
@@ -97,9 +97,9 @@ impl Owners {
 
     /// Sweeps out what was noted of loaders that stand at their names no more.
     #[inline(never)]
-    fn sweep(&mut self, places: &Places) {
+    fn sweep(&mut self, slots: &Slots) {
         self.rising.retain(|note| {
-            match places.get(note.name) {
+            match slots.get(note.name) {
                 Some(boxed) => first_owner(boxed.loader()) == note.owner,
                 None => false,
             }

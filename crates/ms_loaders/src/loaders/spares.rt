@@ -1,10 +1,10 @@
 //! Loaders that were unloaded, each in its box, for new ones.
 //!
-//!     unload ──> | closed | closed | closed |  place  |  place  | ──> new       at most 64, each small
+//!     unload ──> | closed | closed | closed |  room   |  room   | ──> new       at most 64, each small
 //!
 //! Where loaders come and go, each would ask for the memory of its arenas and names anew. Nothing
 //! outside rests on which loaders are here: one that starts anew is as new as any. Only `reserve`
-//! and `make` take memory, the latter where none is here: there is place for each loader, since it
+//! and `make` take memory, the latter where none is here: there is room for each loader, since it
 //! was made when the loader came.
 ghost use Rattle.std.specs.Prelude.{◌≡◌, IfOk, IfErr, []};
 ghost use Rattle.ms_base.specs.declared.kind.Space.TheVariants.{NonClass, Class};
@@ -40,7 +40,7 @@ impl Spares {
         }
     }
 
-    /// Makes place for so many loaders, but for no more than are kept at most. Takes memory.
+    /// Makes room for so many loaders, but for no more than are kept at most. Takes memory.
     pub(super) fn reserve(&mut self, loaders: usize) -> Result<(), AllocError> {
         let wanted = loaders.min(MOST);
         self.boxes.reserve(wanted.saturating_sub(self.boxes.len()))
@@ -74,7 +74,7 @@ impl Spares {
     }
 
     /// Gives the accounts of a loader back, the class space's last. It is kept where it is small
-    /// and has a place, else dropped. Takes no memory.
+    /// and there is room, else dropped. Takes no memory.
     pub(super) fn close(&mut self, alloc: Global, mut boxed: Boxed) -> (Account, Account)
         ensures { AreAccountsOf boxed.1 result }
     {

@@ -3,28 +3,28 @@ ghost use Rattle.std.specs.Prelude.{◌≡◌, length};
 ghost use Rattle.std.specs.Map.{values_of};
 ghost use Rattle.std.specs.Iterator.{at_most};
 ghost use Rattle.std.specs.Map.Iter.{TakesFirst, deref, deref_pair};
-ghost use Rattle.ms_loaders.specs.Places.{rest_of};
+ghost use Rattle.ms_loaders.specs.Slots.{rest_of};
 
 use super::boxed::Boxed;
-use super::places::Places;
+use super::slots::Slots;
 use crate::loader::Loader;
 use std::marker::Model;
 
 /// The loaders that stand at a number or further on.
 #[derive(Drop)]
 struct Walk<'a> {
-    places: &'a Places,
+    slots: &'a Slots,
     from: usize,
 }
 
 impl<'a> Model for Walk<'a> {
     ghost use Rattle.std.specs.Prelude.{List, ℕ};
     ghost use Rattle.ms_loaders.specs.Loader.{LoaderView};
-    ghost use Rattle.ms_loaders.specs.Places.{rest_of};
+    ghost use Rattle.ms_loaders.specs.Slots.{rest_of};
 
     ghost Value = { List (ℕ × LoaderView) };
 
-    ghost view = { λ walk. rest_of walk.places.now walk.from };
+    ghost view = { λ walk. rest_of walk.slots.now walk.from };
 }
 
 impl<'a> Walk<'a> {
@@ -32,7 +32,7 @@ impl<'a> Walk<'a> {
     fn next(&mut self) -> Option<&'a Boxed>
         ensures { TakesFirst deref self.old result self.new }
     {
-        match self.places.next(self.from) {
+        match self.slots.next(self.from) {
             Some((number, boxed)) => {
                 self.from = number + 1;
                 Some(boxed)
@@ -60,11 +60,11 @@ impl<'a> Model for Values<'a> {
 
 impl<'a> Values<'a> {
     /// Starts a walk over all loaders.
-    pub(super) fn over(places: &'a Places) -> Values<'a>
-        ensures { result ≡ values_of (rest_of places.now 0) }
+    pub(super) fn over(slots: &'a Slots) -> Values<'a>
+        ensures { result ≡ values_of (rest_of slots.now 0) }
     {
         Values {
-            walk: Walk { places, from: 0 },
+            walk: Walk { slots, from: 0 },
         }
     }
 }
@@ -101,11 +101,11 @@ impl<'a> Model for Iter<'a> {
 
 impl<'a> Iter<'a> {
     /// Starts a walk over all loaders with their names.
-    pub(super) fn over(places: &'a Places) -> Iter<'a>
-        ensures { result ≡ rest_of places.now 0 }
+    pub(super) fn over(slots: &'a Slots) -> Iter<'a>
+        ensures { result ≡ rest_of slots.now 0 }
     {
         Iter {
-            walk: Walk { places, from: 0 },
+            walk: Walk { slots, from: 0 },
         }
     }
 }

@@ -3,16 +3,16 @@
 //!     name         first    first + 1  first + 2                 3        3000000000
 //!     row     |   -    | [0, 10) | [14, 18) |   -    |     [10, 14)       [18, 30)      others
 //!
-//! Who names blocks mostly counts them, so that a name is a place of the row, found by one
+//! Who names blocks mostly counts them, so that a name is a slot of the row, found by one
 //! indexing. The row is no longer than four names for each that it has ask for. Where a name comes
 //! next that would have it longer, as where most blocks are freed, the row slides on by half, and
 //! the few blocks of the names that it leaves behind are others from then on; so is that of any
-//! name further off. Kept true: each name of the row is a number of 32 bits. Only `make_place`
+//! name further off. Kept true: each name of the row is a number of 32 bits. Only `make_slot`
 //! takes memory. This project's choice.
 ghost use Rattle.std.specs.Prelude.{◌≡◌, ◌≢◌, ℕ, ◌+◌, ◌<◌, ◌≤◌, ◌^◌, ◌⊎◌, None, OnOk, Some, cond, length, nat_eq, take, true};
 ghost use Rattle.std.specs.Prelude.{IsFalse, IsTrue};
 ghost use Rattle.std.specs.Map.{lookup};
-ghost use Rattle.ms_loaders.specs.Table.{HasPlace, NamesAnew, StayNamed, block_in, block_of, in_row, no_block};
+ghost use Rattle.ms_loaders.specs.Table.{HasSlot, NamesAnew, StayNamed, block_in, block_of, in_row, no_block};
 
 use super::small_block::SmallBlock;
 use ms_base::Block;
@@ -20,10 +20,10 @@ use std::alloc::{AllocError, Global};
 use std::collections::HashMap;
 use std::marker::Model;
 
-/// The row's places at least, where many names are to come.
+/// The row's slots at least, where many names are to come.
 const MANY: usize = 64;
 
-/// The row's places at least, where few are.
+/// The row's slots at least, where few are.
 const FEW: usize = 8;
 
 /// So many names there are: 0 to 2^32 - 1.
@@ -32,7 +32,7 @@ const NAMES: usize = 1 << 32;
 /// Blocks by name, 0 to 2^32 - 1.
 #[derive(Drop)]
 pub struct Table {
-    /// The name of the row's first place.
+    /// The name of the row's first slot.
     pub(super) first: usize,
     /// From that name on: the block of each, or none.
     pub(super) row: Vec<SmallBlock>,
@@ -102,21 +102,21 @@ impl Table {
         look_up(&self.others, name)
     }
 
-    /// Makes a place in the row for a name, where it may have one, and returns whether it has; all
+    /// Makes a slot in the row for a name, where it may have one, and returns whether it has; all
     /// names stay. Where it hasn't, there may be room ahead beside the row. Notes too whether
     /// memory was refused.
     #[inline(always)]
-    pub fn make_place(&mut self, name: u32, many: bool, refused: &mut bool) -> bool
-        ensures place { IsTrue result → HasPlace self.new.first self.new.row name }
+    pub fn make_slot(&mut self, name: u32, many: bool, refused: &mut bool) -> bool
+        ensures slot { IsTrue result → HasSlot self.new.first self.new.row name }
         ensures none { IsFalse result → in_row self.new.first self.new.row name ≡ no_block }
         ensures stay { StayNamed self.old self.new }
     {
         self.asked = self.asked.wrapping_add(1);
-        if has_place(self.first, &self.row, name) {
+        if has_slot(self.first, &self.row, name) {
             return true;
         }
         *refused = self.grow(name as usize, many).is_err();
-        if has_place(self.first, &self.row, name) {
+        if has_slot(self.first, &self.row, name) {
             return true;
         }
         if make_more_room(&mut self.others, many).is_err() {
@@ -125,8 +125,8 @@ impl Table {
         false
     }
 
-    /// Makes the row longer, or has it slide on, for a name that has no place in it, where the name
-    /// is near. It slides only once so many names were asked for as a quarter of its places, so
+    /// Makes the row longer, or has it slide on, for a name that has no slot in it, where the name
+    /// is near. It slides only once so many names were asked for as a quarter of its slots, so
     /// that it costs no more than they did; those that are refused count, or many of them would
     /// have the row stay behind for good. All names stay.
     #[inline(always)]
@@ -134,38 +134,38 @@ impl Table {
         requires { name < 2 ^ 32 }
         ensures { StayNamed self.old self.new }
     {
-        let places = self.row.len();
-        if name < self.first || name - self.first < places {
+        let slots = self.row.len();
+        if name < self.first || name - self.first < slots {
             return Ok(());
         }
         let wanted = name - self.first + 1;
         let most = self.count.saturating_mul(4).max(MANY);
         if wanted <= most {
             let least = if many { MANY } else { FEW };
-            let longer = places.saturating_mul(2).max(least).min(most);
+            let longer = slots.saturating_mul(2).max(least).min(most);
             return self.lengthen(longer.max(wanted).min(NAMES - self.first));
         }
-        let half = places / 2;
-        if wanted <= places + half
+        let half = slots / 2;
+        if wanted <= slots + half
             && half <= self.asked.saturating_mul(2)
-            && self.first + half + places <= NAMES
+            && self.first + half + slots <= NAMES
         {
             return self.slide(half);
         }
         Ok(())
     }
 
-    /// Makes the row so long. Out of line, as `slide` is: most names that have no place in the row
+    /// Makes the row so long. Out of line, as `slide` is: most names that have no slot in the row
     /// get none.
     #[inline(never)]
-    fn lengthen(&mut self, places: usize) -> Result<(), AllocError>
-        requires longer { length self.old.row ≤ places }
-        requires few { self.old.first + places ≤ 2 ^ 32 }
-        ensures long { OnOk result (length self.new.row ≡ places) }
+    fn lengthen(&mut self, slots: usize) -> Result<(), AllocError>
+        requires longer { length self.old.row ≤ slots }
+        requires few { self.old.first + slots ≤ 2 ^ 32 }
+        ensures long { OnOk result (length self.new.row ≡ slots) }
         ensures first { self.new.first ≡ self.old.first }
         ensures stay { StayNamed self.old self.new }
     {
-        self.row.resize(places, SmallBlock::none())
+        self.row.resize(slots, SmallBlock::none())
     }
 
     /// Has the row begin so many names further on, and as long as it was; the blocks of the names
@@ -178,9 +178,9 @@ impl Table {
         ensures first { OnOk result (self.new.first ≡ self.old.first + names) }
         ensures stay { StayNamed self.old self.new }
     {
-        let places = self.row.len();
+        let slots = self.row.len();
         self.leave(names)?;
-        self.lengthen(places)
+        self.lengthen(slots)
     }
 
     /// Cuts the first names off the row, whose blocks are others then.
@@ -200,10 +200,10 @@ impl Table {
         Ok(())
     }
 
-    /// Gives a name its block at its place in the row.
+    /// Gives a name its block at its slot in the row.
     #[inline(always)]
     pub fn put(&mut self, name: u32, block: Block)
-        requires place { HasPlace self.old.first self.old.row name }
+        requires slot { HasSlot self.old.first self.old.row name }
         requires some { 1 ≤ block.words }
         requires small { block.start + block.words < 2 ^ 32 }
         ensures { NamesAnew self.old name (Some block) self.new }
@@ -260,10 +260,10 @@ fn make_more_room(others: &mut HashMap<u32, SmallBlock>, many: bool) -> Result<(
     Ok(())
 }
 
-/// Returns whether a name has a place in a row from a first name on.
+/// Returns whether a name has a slot in a row from a first name on.
 #[inline(always)]
-fn has_place(first: usize, row: &[SmallBlock], name: u32) -> bool
-    ensures place { IsTrue result → HasPlace first row.now name }
+fn has_slot(first: usize, row: &[SmallBlock], name: u32) -> bool
+    ensures slot { IsTrue result → HasSlot first row.now name }
     ensures none { IsFalse result → in_row first row.now name ≡ no_block }
 {
     let at = name as usize;
@@ -282,13 +282,13 @@ pub(super) fn block_at(first: usize, row: &[SmallBlock], name: u32) -> SmallBloc
     SmallBlock::none()
 }
 
-/// Sets the block of a name in a row from a first name on, and returns whether it has a place
+/// Sets the block of a name in a row from a first name on, and returns whether it has a slot
 /// there.
 #[inline(always)]
 fn set_block(first: usize, row: &mut [SmallBlock], name: u32, small: SmallBlock) -> bool
     ensures set { IsTrue result
         → (other : ℕ) → in_row first row.new other ≡ cond (nat_eq name other) small (in_row first row.old other) }
-    ensures past { IsFalse result → HasPlace first row.old name → ⊥ }
+    ensures past { IsFalse result → HasSlot first row.old name → ⊥ }
     ensures none { IsFalse result → in_row first row.old name ≡ no_block }
     ensures unchanged { IsFalse result → row.new ≡ row.old }
     ensures stays { length row.new ≡ length row.old }

@@ -11,7 +11,7 @@ impl System {
     /// Returns the name of the loader in whose chunk a word lies, in either space, if it lies in
     /// one: in use or not, committed or not. Takes no memory, goes down one path of one tree of the
     /// pool, and looks the owner up once. Each loader is looked at only where one was exchanged in
-    /// its place, or has owner numbers that weren't given together. This project's choice.
+    /// its index, or has owner numbers that weren't given together. This project's choice.
     pub fn holder(&self, word: u64) -> Option<u16>
         ensures held { IfSome result (λ name. IsTrue (holds self.now name word)) }
         ensures only { IfSome result

@@ -92,28 +92,28 @@ room_without old mid gone chunk goes room = record {
 pub none_gone : (old : Counted) → Moves old [] [] old
 none_gone old = record { full = refl; lent = λ level h. refl; capacity = refl; fronts = refl }
 
-total_more : (amount : Chunk → ℕ) (chunks : List Chunk) (place : ℕ) (chunk : Chunk) → slice_get chunks place ≡ Some chunk
-    → total amount (take (place + 1) chunks) ≡ total amount (take place chunks) + amount chunk
-total_more amount chunks place chunk found =
-    ap (total amount) (take_one_more chunks place chunk found)
-    ∙ total-append amount (take place chunks) (chunk ∷ [])
-    ∙ ap (λ (n : ℕ). total amount (take place chunks) + n) (total-one amount chunk)
+total_more : (amount : Chunk → ℕ) (chunks : List Chunk) (index : ℕ) (chunk : Chunk) → slice_get chunks index ≡ Some chunk
+    → total amount (take (index + 1) chunks) ≡ total amount (take index chunks) + amount chunk
+total_more amount chunks index chunk found =
+    ap (total amount) (take_one_more chunks index chunk found)
+    ∙ total-append amount (take index chunks) (chunk ∷ [])
+    ∙ ap (λ (n : ℕ). total amount (take index chunks) + n) (total-one amount chunk)
 
-total_first : (amount : Chunk → ℕ) (chunks : List Chunk) (place : ℕ)
-    → total amount (take place chunks) ≤ total amount chunks
+total_first : (amount : Chunk → ℕ) (chunks : List Chunk) (index : ℕ)
+    → total amount (take index chunks) ≤ total amount chunks
 total_first amount chunks zero = omega (arith, total-none amount)
-total_first amount [] (suc place) = omega arith
-total_first amount (c ∷ chunks) (suc place) = omega (
+total_first amount [] (suc index) = omega arith
+total_first amount (c ∷ chunks) (suc index) = omega (
   arith,
   total-cons amount c chunks,
-  total-cons amount c (take place chunks),
-  total_first amount chunks place,
+  total-cons amount c (take index chunks),
+  total_first amount chunks index,
 )
 
-pub goes_next : (old mid new : Counted) (chunks : List Chunk) (place : ℕ) (chunk : Chunk)
-    → slice_get chunks place ≡ Some chunk → Moves old (take place chunks) [] mid → Moves mid (chunk ∷ []) [] new
-    → Moves old (take (place + 1) chunks) [] new
-goes_next old mid new chunks place chunk found before goes = record {
+pub goes_next : (old mid new : Counted) (chunks : List Chunk) (index : ℕ) (chunk : Chunk)
+    → slice_get chunks index ≡ Some chunk → Moves old (take index chunks) [] mid → Moves mid (chunk ∷ []) [] new
+    → Moves old (take (index + 1) chunks) [] new
+goes_next old mid new chunks index chunk found before goes = record {
   full = goes.full ∙ before.full;
   lent = λ level h. omega (
     arith,
@@ -121,7 +121,7 @@ goes_next old mid new chunks place chunk found before goes = record {
     goes.lent level h,
     total-none (one_of level),
     total-one (one_of level) chunk,
-    total_more (one_of level) chunks place chunk found,
+    total_more (one_of level) chunks index chunk found,
   );
   capacity = omega (
     arith,
@@ -129,7 +129,7 @@ goes_next old mid new chunks place chunk found before goes = record {
     goes.capacity,
     total-none words_in,
     total-one words_in chunk,
-    total_more words_in chunks place chunk found,
+    total_more words_in chunks index chunk found,
   );
   fronts = omega (
     arith,
@@ -137,38 +137,38 @@ goes_next old mid new chunks place chunk found before goes = record {
     goes.fronts,
     total-none front_in,
     total-one front_in chunk,
-    total_more front_in chunks place chunk found,
+    total_more front_in chunks index chunk found,
   );
 }
 
-pub least_next : (old mid : Counted) (chunks : List Chunk) (place : ℕ) (chunk : Chunk)
-    → slice_get chunks place ≡ Some chunk → chunk.level < level_count → HaveLeast old chunks
-    → Moves old (take place chunks) [] mid → HasLeast mid chunk
-least_next old mid chunks place chunk found low least before = record {
+pub least_next : (old mid : Counted) (chunks : List Chunk) (index : ℕ) (chunk : Chunk)
+    → slice_get chunks index ≡ Some chunk → chunk.level < level_count → HaveLeast old chunks
+    → Moves old (take index chunks) [] mid → HasLeast mid chunk
+least_next old mid chunks index chunk found low least before = record {
   lent = omega (
     arith,
     before.lent chunk.level low,
     least.lent chunk.level low,
     total-none (one_of chunk.level),
     one_of-own chunk.level chunk refl,
-    total_more (one_of chunk.level) chunks place chunk found,
-    total_first (one_of chunk.level) chunks (place + 1),
+    total_more (one_of chunk.level) chunks index chunk found,
+    total_first (one_of chunk.level) chunks (index + 1),
   );
   capacity = omega (
     arith,
     before.capacity,
     least.capacity,
     total-none words_in,
-    total_more words_in chunks place chunk found,
-    total_first words_in chunks (place + 1),
+    total_more words_in chunks index chunk found,
+    total_first words_in chunks (index + 1),
   );
   fronts = omega (
     arith,
     before.fronts,
     least.fronts,
     total-none front_in,
-    total_more front_in chunks place chunk found,
-    total_first front_in chunks (place + 1),
+    total_more front_in chunks index chunk found,
+    total_first front_in chunks (index + 1),
   );
 }
 

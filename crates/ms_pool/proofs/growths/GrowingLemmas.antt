@@ -1,5 +1,5 @@
 -- What `grow` does, from what the code has found out: the chunk is one of the account's, and the
--- one that it becomes has its place.
+-- one that it becomes has its span.
 use Rattle.std.proofs.Common.{◌≡◌, ◌<◌, ◌≤◌, ◌^◌, ℕ, zero, suc, ◌+◌, ◌-◌, ◌*◌, Bool, true, false, ◌&&◌, ◌||◌, ◌==◌}
 use Rattle.std.proofs.Common.{Some, List, [], ◌∷◌, ◌++◌, length, get_or, map, refl, sym, ap, ap₂, subst, ◌∙◌, arith}
 use Rattle.std.proofs.Common.{eq-eqb, eqb-true, ltb-true, leb-true, inl, inr}
@@ -45,12 +45,12 @@ use Rattle.ms_pool.proofs.ledger.LoanOrderLemmas.{StartsElsewhere, start_of}
 use Rattle.ms_pool.proofs.ledger.LedgerSlotLemmas.{starts_in}
 use Rattle.ms_pool.specs.Placing.{IsLentThere}
 
--- A place of a list, as it is read, and as it is where it is given what it has.
-pub found_at : (chunks : List Chunk) (place : ℕ) (chunk : Chunk) → place < length chunks
-    → chunk ≡ get_or chunks place chunk → slice_get chunks place ≡ Some chunk
-found_at [] place chunk within e = absurd (omega arith)
+-- An index of a list, as it is read, and as it is where it is given what it has.
+pub found_at : (chunks : List Chunk) (index : ℕ) (chunk : Chunk) → index < length chunks
+    → chunk ≡ get_or chunks index chunk → slice_get chunks index ≡ Some chunk
+found_at [] index chunk within e = absurd (omega arith)
 found_at (c ∷ chunks) zero chunk within e = ap (λ (one : Chunk). Some one) (sym e)
-found_at (c ∷ chunks) (suc place) chunk within e = found_at chunks place chunk (omega arith) e
+found_at (c ∷ chunks) (suc index) chunk within e = found_at chunks index chunk (omega arith) e
 
 -- The chunk of an account, in the pool.
 pub record IsOwn (space : Space) (lender : Lender) (owner : ℕ) (chunk : Chunk) : Type 0 where
@@ -74,10 +74,10 @@ lent_by owner chunk before after =
     or_true true = refl
     or_true false = refl
 
-pub is_own : (lender : Lender) (account : AccountState) (place : ℕ) (chunk : Chunk) → IsKept lender
+pub is_own : (lender : Lender) (account : AccountState) (index : ℕ) (chunk : Chunk) → IsKept lender
     → Serves (ledger_of lender) account → AreChunks account.space account.chunks
-    → slice_get account.chunks place ≡ Some chunk → IsOwn account.space lender account.owner chunk
-is_own lender account place chunk kept served chunks found = record {
+    → slice_get account.chunks index ≡ Some chunk → IsOwn account.space lender account.owner chunk
+is_own lender account index chunk kept served chunks found = record {
   loan = loan;
   there = record {
     lent = ap (λ (l : List Loan). is_lent_in l chunk) loan.is ∙ lent_by account.owner chunk loan.before loan.after;
@@ -87,7 +87,7 @@ is_own lender account place chunk kept served chunks found = record {
 }
   where
     has : Contains account.chunks chunk
-    has = contains_at account.chunks place chunk found
+    has = contains_at account.chunks index chunk found
 
     loan : IsLoan account.owner chunk (ledger_of lender).loans
     loan = loan_of account.owner chunk (ledger_of lender).loans

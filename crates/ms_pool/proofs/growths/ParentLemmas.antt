@@ -28,7 +28,7 @@ use Rattle.ms_pool.specs.declared.lender.Lender.{Lender}
 use Rattle.ms_pool.specs.Ledger.{held_in, state_in}
 use Rattle.ms_pool.specs.Keeping.{IsKept, ledger_of}
 use Rattle.ms_pool.specs.Releasing.{is_lent_in}
-use Rattle.ms_buddy.proofs.changes.LeaderLemmas.{buddy_within, lent_place}
+use Rattle.ms_buddy.proofs.changes.LeaderLemmas.{buddy_within, lent_part}
 use Rattle.ms_pool.proofs.searches.FreeRootLemmas.{IsRootIn, at_tree, free_in_root}
 use Rattle.ms_pool.proofs.loans.OpenLemmas.{IsSlotThere, open_is_low, open_is_of_space}
 use Rattle.ms_pool.proofs.returns.ReleasedTreeLemmas.{leaf_there}
@@ -47,9 +47,9 @@ root_is_in space nodes root low high =
     subst (IsRootIn space) whole
     (root_in space nodes (root / 2) (root % 2) (omega arith) (omega (arith, low)) (omega (arith, high)))
 
--- The part of that place.
-abbrev at_place : ℕ → ℕ → Span → Bool
-at_place start level part = (part.start == start) && (part.level == level)
+-- The part of that span.
+abbrev at_span : ℕ → ℕ → Span → Bool
+at_span start level part = (part.start == start) && (part.level == level)
 
 -- No part of another root.
 elsewhere : (a s b low high : ℕ) → low ≤ a → a + s ≤ high → 0 < s → (b < low) ⊎ (high ≤ b) → (a == b) ≡ false
@@ -58,16 +58,16 @@ elsewhere a s b low high h k some (inr more) = grind (arith, nat_tests, k, some,
 
 none_of : (held : List Chunk) (start level low high : ℕ) (parts : List Span)
     → AllByRecursion (IsFreeWithin held low high) parts → (start < low) ⊎ (high ≤ start)
-    → list_any (at_place start level) parts ≡ false
+    → list_any (at_span start level) parts ≡ false
 none_of held start level low high [] all out = refl
 none_of held start level low high (part ∷ parts) all out =
-    ap (λ b. (b && (part.level == level)) || list_any (at_place start level) parts)
+    ap (λ b. (b && (part.level == level)) || list_any (at_span start level) parts)
     (elsewhere part.start (size_of part.level) start low high all.0.from all.0.upto (size_of-some part.level) out)
     ∙ none_of held start level low high parts all.1 out
 
 none_in_root : (held : List Chunk) (start level root : ℕ) → root % size_of 0 ≡ 0
     → (start < root) ⊎ (root + size_of 0 ≤ start)
-    → list_any (at_place start level) (free_within held highest_level root) ≡ false
+    → list_any (at_span start level) (free_within held highest_level root) ≡ false
 none_in_root held start level root whole out =
     none_of held start level root (root + size_of 0) (free_within held highest_level root)
     (recursion_from_All (IsFreeWithin held root (root + size_of 0)) (free_within held highest_level root)
@@ -78,7 +78,7 @@ shifted : (a b c w : ℕ) → c ≡ b + w → (a + w == c) ≡ (a == b)
 shifted a b c w e = grind (arith, nat_tests)
 
 moved_down : (start level own words : ℕ) (parts : List Span) → start ≡ own + words
-    → list_any (at_place start level) (map (raised_part words) parts)
+    → list_any (at_span start level) (map (raised_part words) parts)
     ≡ list_any (is_same (record { start = own; level = level })) parts
 moved_down start level own words [] e = refl
 moved_down start level own words (part ∷ parts) e =
@@ -139,11 +139,11 @@ one_of_slots test f (k ∷ slots) slot there out =
         ∙ or_none (list_any test (f k)) ∙ ap (λ (j : ℕ). list_any test (f j)) (head e)
 
 none_in_slot : (held : List Chunk) (start level slot : ℕ) → (slot ≡ slot_of start → ⊥)
-    → list_any (at_place start level) (free_in_slot held slot) ≡ false
+    → list_any (at_span start level) (free_in_slot held slot) ≡ false
 none_in_slot held start level slot other =
-    list_any-append (at_place start level) (free_within held highest_level (slot * node_words))
+    list_any-append (at_span start level) (free_within held highest_level (slot * node_words))
     (free_within held highest_level (slot * node_words + size_of 0))
-    ∙ ap (λ b. b || list_any (at_place start level) (free_within held highest_level (slot * node_words + size_of 0)))
+    ∙ ap (λ b. b || list_any (at_span start level) (free_within held highest_level (slot * node_words + size_of 0)))
     (none_in_root held start level (slot * node_words) (omega arith)
     (side (slot * node_words) (omega arith) (omega arith)))
     ∙ none_in_root held start level (slot * node_words + size_of 0) (omega arith)
@@ -166,7 +166,7 @@ none_in_slot held start level slot other =
 pub free_by_root : (space : Space) (lender : Lender) (root own level : ℕ) → IsKept lender → own < root_words
     → 2 * first_slot space ≤ root → root < 2 * end_slot space lender.nodes
     → is_reserved (slots_of space lender.nodes) (root / 2) ≡ true
-    → list_any (at_place (own + root * root_words) level)
+    → list_any (at_span (own + root * root_words) level)
     (free_parts (held_in space (ledger_of lender)) (slots_of space lender.nodes))
     ≡ list_any (is_same (record { start = own; level = level })) (free_of (get_or lender.trees.items root []))
 free_by_root space lender root own level kept fits low high there =
@@ -193,7 +193,7 @@ free_by_root space lender root own level kept fits low high there =
     start = own + root * root_words
 
     test : Span → Bool
-    test = at_place start level
+    test = at_span start level
 
     in_slot : slot_of start ≡ root / 2
     in_slot = omega (arith, fits)
@@ -241,17 +241,17 @@ parents_alike space lender chunk kept lent there =
     (is_free (state_in space (ledger_of lender)) (buddy_start chunk.start chunk.level) chunk.level)
     (is_leader own chunk.level)
     (list_any (is_same (record { start = buddy_start own chunk.level; level = chunk.level })) (free_of tree))
-    (λ some. ap (λ (n : ℕ). n == 0) (sym (offset_mod chunk.start (chunk.level - 1) (omega (arith, place.0.0)))))
+    (λ some. ap (λ (n : ℕ). n == 0) (sym (offset_mod chunk.start (chunk.level - 1) (omega (arith, index.0.0)))))
     (λ some leads.
     let leader : own % size_of (chunk.level - 1) ≡ 0 = eqb-true (own % size_of (chunk.level - 1)) 0 leads in
     let whole : chunk.start % size_of (chunk.level - 1) ≡ 0 =
-    sym (offset_mod chunk.start (chunk.level - 1) (omega (arith, place.0.0))) ∙ leader in
+    sym (offset_mod chunk.start (chunk.level - 1) (omega (arith, index.0.0))) ∙ leader in
     let inside : own + size_of chunk.level < 524288 =
-    buddy_within own chunk.level (ltb-true 0 chunk.level some) place.0.0 leader place.1 in
+    buddy_within own chunk.level (ltb-true 0 chunk.level some) index.0.0 leader index.1 in
     let global : buddy_start chunk.start chunk.level ≡ own + size_of chunk.level + root * root_words =
     omega (arith, whole) in
     let local : buddy_start own chunk.level ≡ own + size_of chunk.level = omega (arith, leader) in
-    ap (λ (s : ℕ). list_any (at_place s chunk.level)
+    ap (λ (s : ℕ). list_any (at_span s chunk.level)
     (free_parts (held_in space (ledger_of lender)) (slots_of space lender.nodes))) global
     ∙ free_by_root space lender root (own + size_of chunk.level) chunk.level kept inside
     (from_slot space
@@ -272,8 +272,8 @@ parents_alike space lender chunk kept lent there =
     leaves : AllByRecursion AreLeaves lender.trees.items
     leaves = recursion_from_All AreLeaves lender.trees.items kept.leaves
 
-    place : IsPart own chunk.level × (own + size_of chunk.level ≤ 524288)
-    place = lent_place (span_at own chunk.level) tree
+    index : IsPart own chunk.level × (own + size_of chunk.level ≤ 524288)
+    index = lent_part (span_at own chunk.level) tree
         (at_tree lender.trees.items root (leaf_there lender.trees.items chunk leaves lent).0 leaves).parts
         (at_tree lender.trees.items root (leaf_there lender.trees.items chunk leaves lent).0 leaves).in_root
         (leaf_there lender.trees.items chunk leaves lent).1

@@ -147,12 +147,12 @@ fronts_pass granule k greater (loan ∷ loans) all = (
   fronts_pass granule k greater loans all.1,
 )
 
-starts_from_place : (chunk greater : Chunk) (loans : List Loan) → greater.start ≡ chunk.start
+starts_from_span : (chunk greater : Chunk) (loans : List Loan) → greater.start ≡ chunk.start
     → is_lent_in loans chunk ≡ true → list_any (starts_there greater) loans ≡ true
-starts_from_place chunk greater [] e there = absurd (cc)
-starts_from_place chunk greater (loan ∷ loans) e there =
+starts_from_span chunk greater [] e there = absurd (cc)
+starts_from_span chunk greater (loan ∷ loans) e there =
     go (loan.chunk.start == chunk.start) (loan.chunk.level == chunk.level) refl there
-    (starts_from_place chunk greater loans e)
+    (starts_from_span chunk greater loans e)
   where
     or_later : (a b : Bool) → b ≡ true → (a || b) ≡ true
     or_later true b f = refl
@@ -252,7 +252,7 @@ grown_ledger space lender chunk greater kept lent there same more sound placed s
     loans = with_greater_loan greater (ledger_of lender).loans
 
     starts : list_any (starts_there greater) (ledger_of lender).loans ≡ true
-    starts = starts_from_place chunk greater (ledger_of lender).loans same lent
+    starts = starts_from_span chunk greater (ledger_of lender).loans same lent
 
 -- The front of the grown chunk is committed: the ledger has the chunk grown.
 pub grown_shows : (space : Space) (lender : Lender) (chunk greater : Chunk) (nodes : NodesState)

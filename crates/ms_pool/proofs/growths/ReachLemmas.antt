@@ -67,7 +67,7 @@ pub first_false : (a b c : Bool) → a ≡ false → (a && b && c) ≡ false
 first_false false b c e = refl
 first_false true b c e = absurd (cc)
 
--- A chunk of that front, at its place or its parent's.
+-- A chunk of that front, at its span or its parent's.
 abbrev made_at : Policy → ℕ → ℕ → ℕ → Chunk
 made_at policy start total level =
     record { start = start; level = level; front = front_for policy (size_of level) total }

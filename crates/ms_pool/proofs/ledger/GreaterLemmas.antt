@@ -25,7 +25,7 @@ use Rattle.ms_base.proofs.machine.BlocksApartLemmas.{middle_is_clear}
 use Rattle.ms_base.proofs.runs.ApartLemmas.{apart-rest_of, apart-with, list_any-rest_of, meet_turned}
 use Rattle.ms_pool.specs.Lending.{MayBeParent, reaching}
 
--- A held chunk that is grown: at its place, with a front that is no smaller, and within the limit.
+-- A held chunk that is grown: at its span, with a front that is no smaller, and within the limit.
 pub record IsGreater (pool : PoolState) (was is : Chunk) : Type 0 where
   pub start : is.start ≡ was.start
   pub higher : was.front ≤ is.front

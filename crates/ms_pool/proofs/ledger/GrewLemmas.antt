@@ -41,22 +41,22 @@ grow_refusal old account start total may_enlarge answer new grew =
     refusal_after old account grew.chunk total may_enlarge answer new grew.after
 
 -- What a call leaves, by its answer for the chunk that it was asked for.
-keeps_after : (old : Ledger) (account : AccountState) (place : ℕ) (chunk : Chunk) (total : ℕ) (may_enlarge : Bool)
+keeps_after : (old : Ledger) (account : AccountState) (index : ℕ) (chunk : Chunk) (total : ℕ) (may_enlarge : Bool)
     (answer : Result Span Refusal) (new : Ledger)
     → IsSoundLedger old → Serves old account → AreChunks account.space account.chunks
-    → slice_get account.chunks place ≡ Some chunk
+    → slice_get account.chunks index ≡ Some chunk
     → GrewFrom old account chunk total may_enlarge answer new → Keeps account.owner old new
-keeps_after old account place chunk total may_enlarge (Ok span) new sound served chunks found
+keeps_after old account index chunk total may_enlarge (Ok span) new sound served chunks found
     (greater, answered, at, is) =
-    let well = grown_well old account place chunk greater total may_enlarge sound served chunks found answered in
+    let well = grown_well old account index chunk greater total may_enlarge sound served chunks found answered in
     subst (Keeps account.owner old) (sym is) (record {
       others = λ other differs. grown_keeps_others old account chunk greater other sound served chunks
-          (contains_at account.chunks place chunk found) well.start differs;
+          (contains_at account.chunks index chunk found) well.start differs;
       given = refl;
       opened = refl;
       limits = refl;
     })
-keeps_after old account place chunk total may_enlarge (Err refusal) new sound served chunks found refused =
+keeps_after old account index chunk total may_enlarge (Err refusal) new sound served chunks found refused =
     keeps_where_tallied account.owner old new
     (grow_refused_raises old account chunk total may_enlarge refusal new refused)
 
@@ -66,37 +66,37 @@ pub grew_keeps : (old : Ledger) (account : AccountState) (start total : ℕ) (ma
     → Grew old account start total may_enlarge answer new
     → Keeps account.owner old new
 grew_keeps old account start total may_enlarge answer new sound served chunks grew =
-    keeps_after old account grew.place grew.chunk total may_enlarge answer new sound served chunks grew.found grew.after
+    keeps_after old account grew.index grew.chunk total may_enlarge answer new sound served chunks grew.found grew.after
 
 -- The account that the call leaves is served: the start tells which of its chunks has grown.
-serves_after : (old : Ledger) (account : AccountState) (place : ℕ) (chunk : Chunk) (total : ℕ) (may_enlarge : Bool)
+serves_after : (old : Ledger) (account : AccountState) (index : ℕ) (chunk : Chunk) (total : ℕ) (may_enlarge : Bool)
     (answer : Result Span Refusal) (new : Ledger) (after : AccountState)
     → IsSoundLedger old → Serves old account → AreChunks account.space account.chunks
-    → slice_get account.chunks place ≡ Some chunk
+    → slice_get account.chunks index ≡ Some chunk
     → GrewFrom old account chunk total may_enlarge answer new
     → IfOk answer (λ span. Grows old.limits.policy chunk.start total may_enlarge account span after)
     → OnErr answer (after ≡ account)
     → Serves new after
-serves_after old account place chunk total may_enlarge (Ok span) new after sound served chunks found
+serves_after old account index chunk total may_enlarge (Ok span) new after sound served chunks found
     (greater, answered, at, is) grows unchanged =
     subst (Serves new) (sym (grows.after ∙ ap (λ (l : List Chunk). record account { chunks = l }) same))
-    (subst (λ (l : Ledger). Serves l (with_greater account place greater)) (sym is) well.served)
+    (subst (λ (l : Ledger). Serves l (with_greater account index greater)) (sym is) well.served)
   where
-    well : GrownWell old account place chunk greater total may_enlarge
-    well = grown_well old account place chunk greater total may_enlarge sound served chunks found answered
+    well : GrownWell old account index chunk greater total may_enlarge
+    well = grown_well old account index chunk greater total may_enlarge sound served chunks found answered
 
     one : grows.chunk ≡ chunk
-    one = same_from_start account.chunks grows.place place grows.chunk chunk chunks.apart grows.found found grows.starts
+    one = same_from_start account.chunks grows.index index grows.chunk chunk chunks.apart grows.found found grows.starts
 
-    same : slice_set account.chunks grows.place (reaching old.limits.policy grows.chunk total)
-        ≡ slice_set account.chunks place greater
+    same : slice_set account.chunks grows.index (reaching old.limits.policy grows.chunk total)
+        ≡ slice_set account.chunks index greater
     same =
-        ap (slice_set account.chunks grows.place)
+        ap (slice_set account.chunks grows.index)
         (ap (λ (c : Chunk). reaching old.limits.policy c total) one ∙ sym well.reaches)
-        ∙ sym (swapped_at account.chunks grows.place grows.chunk greater (well.start ∙ sym grows.starts) chunks.apart
+        ∙ sym (swapped_at account.chunks grows.index grows.chunk greater (well.start ∙ sym grows.starts) chunks.apart
         grows.found)
-        ∙ swapped_at account.chunks place chunk greater well.start chunks.apart found
-serves_after old account place chunk total may_enlarge (Err refusal) new after sound served chunks found refused grows
+        ∙ swapped_at account.chunks index chunk greater well.start chunks.apart found
+serves_after old account index chunk total may_enlarge (Err refusal) new after sound served chunks found refused grows
     unchanged =
     subst (Serves new) (sym unchanged)
     (serves_where_tallied old new account
@@ -110,7 +110,7 @@ pub grew_serves : (old : Ledger) (account : AccountState) (start total : ℕ) (m
     → OnErr answer (after ≡ account)
     → Serves new after
 grew_serves old account start total may_enlarge answer new after sound served chunks grew grows unchanged =
-    serves_after old account grew.place grew.chunk total may_enlarge answer new after sound served chunks grew.found
+    serves_after old account grew.index grew.chunk total may_enlarge answer new after sound served chunks grew.found
     grew.after
     (subst (λ (s : ℕ). IfOk answer (λ span. Grows old.limits.policy s total may_enlarge account span after))
     (sym grew.starts) grows) unchanged

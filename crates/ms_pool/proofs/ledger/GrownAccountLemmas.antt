@@ -23,19 +23,19 @@ use Rattle.ms_pool.proofs.ledger.LoanAtLemmas.{contains_at}
 use Rattle.ms_pool.proofs.ledger.LoanAtLemmas.{swapped, swapped_at, owned_by-replaced}
 use Rattle.ms_pool.proofs.ledger.GrowLemmas.{GrowsAt, grown_at, own_is_held, new_at, grown_is_sound}
 
--- The account with a greater chunk at a place.
+-- The account with a greater chunk at an index.
 abbrev pub with_greater : AccountState → ℕ → Chunk → AccountState
-with_greater account place chunk = record account { chunks = slice_set account.chunks place chunk }
+with_greater account index chunk = record account { chunks = slice_set account.chunks index chunk }
 
-pub grown_serves : (old : Ledger) (account : AccountState) (place : ℕ) (was is : Chunk) → Serves old account
+pub grown_serves : (old : Ledger) (account : AccountState) (index : ℕ) (was is : Chunk) → Serves old account
     → AreChunks account.space account.chunks
-    → slice_get account.chunks place ≡ Some was → is.start ≡ was.start
-    → Serves (with_grown old is) (with_greater account place is)
-grown_serves old account place was is served chunks found same = record {
+    → slice_get account.chunks index ≡ Some was → is.start ≡ was.start
+    → Serves (with_grown old is) (with_greater account index is)
+grown_serves old account index was is served chunks found same = record {
   some = served.some;
   given = served.given;
   chunks = subst (λ (l : List Chunk). IsPermutation (chunks_of (with_grown old is) account.owner) l)
-      (swapped_at account.chunks place was is same chunks.apart found)
+      (swapped_at account.chunks index was is same chunks.apart found)
       (subst (λ (l : List Chunk). IsPermutation l (map (swapped is) account.chunks))
       (sym (owned_by-replaced account.owner is old.loans))
       (IsPermutation-map (swapped is) (chunks_of old account.owner) account.chunks served.chunks));
@@ -59,29 +59,29 @@ grown_keeps_others old account was is other sound served chunks has same differs
     at = grown_at old account was served chunks has
 
 -- The account's chunks with the greater one.
-pub grown_are_chunks : (old : Ledger) (account : AccountState) (place : ℕ) (was is : Chunk) → Serves old account
-    → AreChunks account.space account.chunks → slice_get account.chunks place ≡ Some was
+pub grown_are_chunks : (old : Ledger) (account : AccountState) (index : ℕ) (was is : Chunk) → Serves old account
+    → AreChunks account.space account.chunks → slice_get account.chunks index ≡ Some was
     → IsGreater (state_in account.space old) was is
-    → AreChunks account.space (slice_set account.chunks place is)
-grown_are_chunks old account place was is served chunks found greater = record {
-  parts = All-set (λ (one : Chunk). IsPart one.start one.level) account.chunks place is greater.placed chunks.parts;
-  inside = All-set (λ (one : Chunk). IsSlotOf account.space (slot_of one.start)) account.chunks place is
+    → AreChunks account.space (slice_set account.chunks index is)
+grown_are_chunks old account index was is served chunks found greater = record {
+  parts = All-set (λ (one : Chunk). IsPart one.start one.level) account.chunks index is greater.placed chunks.parts;
+  inside = All-set (λ (one : Chunk). IsSlotOf account.space (slot_of one.start)) account.chunks index is
       (subst (λ (s : ℕ). IsSlotOf account.space (slot_of s)) (sym greater.start)
       (All-contains (λ (one : Chunk). IsSlotOf account.space (slot_of one.start)) account.chunks was chunks.inside
       has)) chunks.inside;
-  fronts = All-set (λ (one : Chunk). (1 ≤ one.front) × (one.front ≤ size_of one.level)) account.chunks place is
+  fronts = All-set (λ (one : Chunk). (1 ≤ one.front) × (one.front ≤ size_of one.level)) account.chunks index is
       (greater.front.some, greater.front.within) chunks.fronts;
   apart = rw parted.new
       (grown_is_apart parted.before was is parted.after low greater.start (rw parted.old at chunks.apart)
       (rw parted.old at own));
-  few = omega (arith, length-set account.chunks place is, chunks.few);
+  few = omega (arith, length-set account.chunks index is, chunks.few);
 }
   where
     has : Contains account.chunks was
-    has = contains_at account.chunks place was found
+    has = contains_at account.chunks index was found
 
-    parted : Parted account.chunks place was is
-    parted = parted_at account.chunks place was is found
+    parted : Parted account.chunks index was is
+    parted = parted_at account.chunks index was is found
 
     low : was.level ≤ highest_level
     low = (All-contains (λ (one : Chunk). IsPart one.start one.level) account.chunks was chunks.parts has).0
@@ -94,26 +94,26 @@ grown_are_chunks old account place was is served chunks found greater = record {
     ]
 
 -- All that a grown chunk leaves.
-pub record GrownWell (old : Ledger) (account : AccountState) (place : ℕ) (was is : Chunk) (total : ℕ)
+pub record GrownWell (old : Ledger) (account : AccountState) (index : ℕ) (was is : Chunk) (total : ℕ)
     (may_enlarge : Bool) : Type 0 where
   pub sound : IsSoundLedger (with_grown old is)
-  pub served : Serves (with_grown old is) (with_greater account place is)
+  pub served : Serves (with_grown old is) (with_greater account index is)
   pub others : (other : AccountState) → other.owner ≢ account.owner → Serves old other
       → Serves (with_grown old is) other
-  pub chunks : AreChunks account.space (slice_set account.chunks place is)
+  pub chunks : AreChunks account.space (slice_set account.chunks index is)
   pub start : is.start ≡ was.start
   pub reaches : is ≡ reaching old.limits.policy was total
-  pub grows : Grows old.limits.policy was.start total may_enlarge account (span_of is) (with_greater account place is)
+  pub grows : Grows old.limits.policy was.start total may_enlarge account (span_of is) (with_greater account index is)
 
-pub grown_well : (old : Ledger) (account : AccountState) (place : ℕ) (was is : Chunk) (total : ℕ) (may_enlarge : Bool)
+pub grown_well : (old : Ledger) (account : AccountState) (index : ℕ) (was is : Chunk) (total : ℕ) (may_enlarge : Bool)
     → IsSoundLedger old
     → Serves old account
-    → AreChunks account.space account.chunks → slice_get account.chunks place ≡ Some was
+    → AreChunks account.space account.chunks → slice_get account.chunks index ≡ Some was
     → grown (state_in account.space old) was total may_enlarge ≡ Ok is
-    → GrownWell old account place was is total may_enlarge
-grown_well old account place was is total may_enlarge sound served chunks found answered = record {
+    → GrownWell old account index was is total may_enlarge
+grown_well old account index was is total may_enlarge sound served chunks found answered = record {
   sound = grown_is_sound old account was is sound served chunks has greater;
-  served = grown_serves old account place was is served chunks found greater.start;
+  served = grown_serves old account index was is served chunks found greater.start;
   others = λ other differs its. record {
     some = its.some;
     given = its.given;
@@ -121,22 +121,22 @@ grown_well old account place was is total may_enlarge sound served chunks found 
         (sym (grown_keeps_others old account was is other.owner sound served chunks has greater.start differs))
         its.chunks;
   };
-  chunks = grown_are_chunks old account place was is served chunks found greater;
+  chunks = grown_are_chunks old account index was is served chunks found greater;
   start = greater.start;
   reaches = reached.is_reaching;
   grows = record {
-    place = place;
+    index = index;
     chunk = was;
     found = found;
     starts = refl;
     enlarged = reached.enlarged;
     answer = ap span_of reached.is_reaching;
-    after = ap (with_greater account place) reached.is_reaching;
+    after = ap (with_greater account index) reached.is_reaching;
   };
 }
   where
     has : Contains account.chunks was
-    has = contains_at account.chunks place was found
+    has = contains_at account.chunks index was found
 
     pool : PoolState
     pool = state_in account.space old

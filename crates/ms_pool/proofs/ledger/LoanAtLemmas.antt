@@ -21,12 +21,12 @@ use Rattle.ms_pool.specs.Ledger.{Loan, is_owned_by}
 use Rattle.ms_pool.proofs.ledger.LoanLemmas.{owned_by}
 use Rattle.ms_pool.proofs.ledger.LoanOrderLemmas.{start_of, StartsElsewhere}
 
--- An element at a place is contained.
-pub contains_at : (chunks : List Chunk) (place : ℕ) (chunk : Chunk) → slice_get chunks place ≡ Some chunk
+-- An element at an index is contained.
+pub contains_at : (chunks : List Chunk) (index : ℕ) (chunk : Chunk) → slice_get chunks index ≡ Some chunk
     → Contains chunks chunk
-contains_at [] place chunk found = absurd (cc)
+contains_at [] index chunk found = absurd (cc)
 contains_at (c ∷ chunks) zero chunk found = let its : c ≡ chunk = cc in (0, omega arith, its)
-contains_at (c ∷ chunks) (suc place) chunk found = let rest = contains_at chunks place chunk found in
+contains_at (c ∷ chunks) (suc index) chunk found = let rest = contains_at chunks index chunk found in
     (suc rest.0, omega (arith, rest.1), rest.2)
 
 -- The loan of an owner's chunk.
@@ -222,16 +222,16 @@ none_swapped chunk (c ∷ others) apart =
     ap (λ (b : Bool). cond b chunk c ∷ map (swapped chunk) others) (ne_eqb c.start chunk.start apart.0)
     ∙ ap (λ (l : List Chunk). c ∷ l) (none_swapped chunk others apart.1)
 
-at_place : (P : Chunk → Type 0) (chunks : List Chunk) (place : ℕ) (chunk : Chunk) → slice_get chunks place ≡ Some chunk
+at_span : (P : Chunk → Type 0) (chunks : List Chunk) (index : ℕ) (chunk : Chunk) → slice_get chunks index ≡ Some chunk
     → AllByRecursion P chunks → P chunk
-at_place P [] place chunk found all = absurd (cc)
-at_place P (c ∷ chunks) zero chunk found all = let its : c ≡ chunk = cc in subst P its all.0
-at_place P (c ∷ chunks) (suc place) chunk found all = at_place P chunks place chunk found all.1
+at_span P [] index chunk found all = absurd (cc)
+at_span P (c ∷ chunks) zero chunk found all = let its : c ≡ chunk = cc in subst P its all.0
+at_span P (c ∷ chunks) (suc index) chunk found all = at_span P chunks index chunk found all.1
 
-pub swapped_at : (chunks : List Chunk) (place : ℕ) (was is : Chunk) → is.start ≡ was.start
+pub swapped_at : (chunks : List Chunk) (index : ℕ) (was is : Chunk) → is.start ≡ was.start
     → are_apart (map words_of chunks) ≡ true
-    → slice_get chunks place ≡ Some was → map (swapped is) chunks ≡ slice_set chunks place is
-swapped_at [] place was is same apart found = absurd (cc)
+    → slice_get chunks index ≡ Some was → map (swapped is) chunks ≡ slice_set chunks index is
+swapped_at [] index was is same apart found = absurd (cc)
 swapped_at (c ∷ chunks) zero was is same apart found =
     let its : c ≡ was = cc in
     let both = and_parts (not (meets_any (words_of c) (map words_of chunks))) (are_apart (map words_of chunks)) apart in
@@ -240,20 +240,20 @@ swapped_at (c ∷ chunks) zero was is same apart found =
     ∙ ap (λ (l : List Chunk). is ∷ l)
     (none_swapped is chunks (subst (λ (s : ℕ). AllByRecursion (λ (one : Chunk). one.start ≢ s) chunks) start
     (starts_apart c chunks (not-true (meets_any (words_of c) (map words_of chunks)) both.0))))
-swapped_at (c ∷ chunks) (suc place) was is same apart found =
+swapped_at (c ∷ chunks) (suc index) was is same apart found =
     let both = and_parts (not (meets_any (words_of c) (map words_of chunks))) (are_apart (map words_of chunks)) apart in
     let other =
-    at_place (λ (one : Chunk). one.start ≢ c.start) chunks place was found
+    at_span (λ (one : Chunk). one.start ≢ c.start) chunks index was found
     (starts_apart c chunks (not-true (meets_any (words_of c) (map words_of chunks)) both.0)) in
     ap (λ (b : Bool). cond b is c ∷ map (swapped is) chunks) (ne_eqb c.start is.start (λ e. other (sym same ∙ sym e)))
-    ∙ ap (λ (l : List Chunk). c ∷ l) (swapped_at chunks place was is same both.1 found)
+    ∙ ap (λ (l : List Chunk). c ∷ l) (swapped_at chunks index was is same both.1 found)
 
 -- A start tells the chunk.
-pub same_from_start : (chunks : List Chunk) (place other : ℕ) (a b : Chunk) → are_apart (map words_of chunks) ≡ true
-    → slice_get chunks place ≡ Some a → slice_get chunks other ≡ Some b → a.start ≡ b.start → a ≡ b
-same_from_start [] place other a b apart found too same = absurd (cc)
-same_from_start (c ∷ chunks) place other a b apart found too same =
-    go place other found too
+pub same_from_start : (chunks : List Chunk) (index other : ℕ) (a b : Chunk) → are_apart (map words_of chunks) ≡ true
+    → slice_get chunks index ≡ Some a → slice_get chunks other ≡ Some b → a.start ≡ b.start → a ≡ b
+same_from_start [] index other a b apart found too same = absurd (cc)
+same_from_start (c ∷ chunks) index other a b apart found too same =
+    go index other found too
     (λ p q h k. same_from_start chunks p q a b
     (and_parts (not (meets_any (words_of c) (map words_of chunks))) (are_apart (map words_of chunks)) apart).1 h k
     same)
@@ -262,15 +262,15 @@ same_from_start (c ∷ chunks) place other a b apart found too same =
     clear = not-true (meets_any (words_of c) (map words_of chunks))
         (and_parts (not (meets_any (words_of c) (map words_of chunks))) (are_apart (map words_of chunks)) apart).0
 
-    differ : (place : ℕ) (d : Chunk) → slice_get chunks place ≡ Some d → d.start ≢ c.start
-    differ place d found =
-        at_place (λ (one : Chunk). one.start ≢ c.start) chunks place d found (starts_apart c chunks clear)
+    differ : (index : ℕ) (d : Chunk) → slice_get chunks index ≡ Some d → d.start ≢ c.start
+    differ index d found =
+        at_span (λ (one : Chunk). one.start ≢ c.start) chunks index d found (starts_apart c chunks clear)
 
-    go : (place other : ℕ) → slice_get (c ∷ chunks) place ≡ Some a → slice_get (c ∷ chunks) other ≡ Some b
+    go : (index other : ℕ) → slice_get (c ∷ chunks) index ≡ Some a → slice_get (c ∷ chunks) other ≡ Some b
         → ((p q : ℕ) → slice_get chunks p ≡ Some a → slice_get chunks q ≡ Some b → a ≡ b) → a ≡ b
     go zero zero found too rest = let first : c ≡ a = cc in let second : c ≡ b = cc in sym first ∙ second
     go zero (suc other) found too rest = let first : c ≡ a =
         cc in absurd (differ other b too (sym same ∙ ap (λ (d : Chunk). d.start) (sym first)))
-    go (suc place) zero found too rest = let second : c ≡ b =
-        cc in absurd (differ place a found (same ∙ ap (λ (d : Chunk). d.start) (sym second)))
-    go (suc place) (suc other) found too rest = rest place other found too
+    go (suc index) zero found too rest = let second : c ≡ b =
+        cc in absurd (differ index a found (same ∙ ap (λ (d : Chunk). d.start) (sym second)))
+    go (suc index) (suc other) found too rest = rest index other found too

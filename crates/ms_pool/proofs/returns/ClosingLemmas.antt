@@ -28,12 +28,12 @@ use Rattle.ms_pool.proofs.ledger.LoanOrderLemmas.{StartsElsewhere, start_of}
 use Rattle.ms_pool.proofs.returns.ReleasedChunkLemmas.{is_there, not_true}
 use Rattle.ms_pool.proofs.ledger.LoanAtLemmas.{all_above}
 
--- One of the chunks is of that place; and the loans of none of their places.
-abbrev pub at_place : List Chunk → ℕ → ℕ → Bool
-at_place chunks start level = list_any (λ (c : Chunk). (start == c.start) && (level == c.level)) chunks
+-- One of the chunks is of that span; and the loans of none of their spans.
+abbrev pub at_span : List Chunk → ℕ → ℕ → Bool
+at_span chunks start level = list_any (λ (c : Chunk). (start == c.start) && (level == c.level)) chunks
 
 abbrev pub without_all : List Chunk → List Loan → List Loan
-without_all chunks loans = filter (λ (loan : Loan). not (at_place chunks loan.chunk.start loan.chunk.level)) loans
+without_all chunks loans = filter (λ (loan : Loan). not (at_span chunks loan.chunk.start loan.chunk.level)) loans
 
 pub without_none : (loans : List Loan) → without_all [] loans ≡ loans
 without_none [] = refl
@@ -42,11 +42,11 @@ without_none (loan ∷ loans) = ap (λ (l : List Loan). loan ∷ l) (without_non
 pub without_one_more : (chunks : List Chunk) (chunk : Chunk) (loans : List Loan)
     → without_loan chunk (without_all chunks loans) ≡ without_all (chunks ++ chunk ∷ []) loans
 without_one_more chunks chunk loans =
-    filter-filter (λ (loan : Loan). not (at_place chunks loan.chunk.start loan.chunk.level))
+    filter-filter (λ (loan : Loan). not (at_span chunks loan.chunk.start loan.chunk.level))
     (λ loan. not (is_at chunk loan)) loans
-    ∙ filter_agree (λ (loan : Loan). not (at_place chunks loan.chunk.start loan.chunk.level) && not (is_at chunk loan))
-    (λ (loan : Loan). not (at_place (chunks ++ chunk ∷ []) loan.chunk.start loan.chunk.level))
-    (λ loan. neither (at_place chunks loan.chunk.start loan.chunk.level) (is_at chunk loan)
+    ∙ filter_agree (λ (loan : Loan). not (at_span chunks loan.chunk.start loan.chunk.level) && not (is_at chunk loan))
+    (λ (loan : Loan). not (at_span (chunks ++ chunk ∷ []) loan.chunk.start loan.chunk.level))
+    (λ loan. neither (at_span chunks loan.chunk.start loan.chunk.level) (is_at chunk loan)
     ∙ ap not (sym
     (list_any-append (λ (c : Chunk). (loan.chunk.start == c.start) && (loan.chunk.level == c.level)) chunks
     (chunk ∷ [])))) loans
@@ -56,56 +56,56 @@ without_one_more chunks chunk loans =
     neither false true = refl
     neither false false = refl
 
-pub take_one_more : (chunks : List Chunk) (place : ℕ) (chunk : Chunk) → slice_get chunks place ≡ Some chunk
-    → take (place + 1) chunks ≡ take place chunks ++ chunk ∷ []
-take_one_more chunks place chunk found =
-    take_more chunks place chunk (slice_get_within chunks place chunk found)
-    ∙ ap (λ (c : Chunk). take place chunks ++ c ∷ []) (get_or_from_slice_get chunks place chunk chunk found)
+pub take_one_more : (chunks : List Chunk) (index : ℕ) (chunk : Chunk) → slice_get chunks index ≡ Some chunk
+    → take (index + 1) chunks ≡ take index chunks ++ chunk ∷ []
+take_one_more chunks index chunk found =
+    take_more chunks index chunk (slice_get_within chunks index chunk found)
+    ∙ ap (λ (c : Chunk). take index chunks ++ c ∷ []) (get_or_from_slice_get chunks index chunk chunk found)
 
--- Chunks that are apart have each a place of its own.
-met_by_none : (c : Chunk) (chunks : List Chunk) (place : ℕ) (chunk : Chunk)
-    → meets_any (words_of c) (map words_of chunks) ≡ false → slice_get chunks place ≡ Some chunk
+-- Chunks that are apart have each a span of its own.
+met_by_none : (c : Chunk) (chunks : List Chunk) (index : ℕ) (chunk : Chunk)
+    → meets_any (words_of c) (map words_of chunks) ≡ false → slice_get chunks index ≡ Some chunk
     → meet c.start (size_of c.level) chunk.start (size_of chunk.level) ≡ false
-met_by_none c [] place chunk clear found = absurd (cc)
+met_by_none c [] index chunk clear found = absurd (cc)
 met_by_none c (x ∷ chunks) zero chunk clear found = let same : x ≡ chunk = cc in
     ap (λ (y : Chunk). meet c.start (size_of c.level) y.start (size_of y.level)) (sym same)
     ∙ (or_parts (meet c.start (size_of c.level) x.start (size_of x.level))
     (meets_any (words_of c) (map words_of chunks)) clear).0
-met_by_none c (x ∷ chunks) (suc place) chunk clear found =
-    met_by_none c chunks place chunk
+met_by_none c (x ∷ chunks) (suc index) chunk clear found =
+    met_by_none c chunks index chunk
     (or_parts (meet c.start (size_of c.level) x.start (size_of x.level))
     (meets_any (words_of c) (map words_of chunks)) clear).1 found
 
-none_before : (chunks : List Chunk) (place : ℕ) (chunk : Chunk) → are_apart (map words_of chunks) ≡ true
-    → slice_get chunks place ≡ Some chunk
-    → at_place (take place chunks) chunk.start chunk.level ≡ false
-none_before [] place chunk apart found = absurd (cc)
+none_before : (chunks : List Chunk) (index : ℕ) (chunk : Chunk) → are_apart (map words_of chunks) ≡ true
+    → slice_get chunks index ≡ Some chunk
+    → at_span (take index chunks) chunk.start chunk.level ≡ false
+none_before [] index chunk apart found = absurd (cc)
 none_before (c ∷ chunks) zero chunk apart found = refl
-none_before (c ∷ chunks) (suc place) chunk apart found =
+none_before (c ∷ chunks) (suc index) chunk apart found =
     let parts = and_parts (not (meets_any (words_of c) (map words_of chunks))) (are_apart (map words_of chunks)) apart
     in
     or_from ((chunk.start == c.start) && (chunk.level == c.level))
-    (at_place (take place chunks) chunk.start chunk.level)
+    (at_span (take index chunks) chunk.start chunk.level)
     (ap (λ (b : Bool). b && (chunk.level == c.level))
     (differ c.start (size_of c.level) chunk.start (size_of chunk.level) (size_some c.level) (size_some chunk.level)
-    (met_by_none c chunks place chunk (not_true (meets_any (words_of c) (map words_of chunks)) parts.0) found)))
-    (none_before chunks place chunk parts.1 found)
+    (met_by_none c chunks index chunk (not_true (meets_any (words_of c) (map words_of chunks)) parts.0) found)))
+    (none_before chunks index chunk parts.1 found)
   where
     differ : (a s b t : ℕ) → 1 ≤ s → 1 ≤ t → meet a s b t ≡ false → (b == a) ≡ false
     differ a s b t h k e = grind (arith, nat_tests)
 
 -- The later ones are lent still.
-itself_there : (chunks : List Chunk) (place : ℕ) (chunk : Chunk) → slice_get chunks place ≡ Some chunk
+itself_there : (chunks : List Chunk) (index : ℕ) (chunk : Chunk) → slice_get chunks index ≡ Some chunk
     → list_any (is_there chunk) chunks ≡ true
-itself_there [] place chunk found = absurd (cc)
+itself_there [] index chunk found = absurd (cc)
 itself_there (c ∷ chunks) zero chunk found = let same : c ≡ chunk = cc in
     or_left (is_there chunk c) (list_any (is_there chunk) chunks)
     (ap (λ (d : Chunk). is_there chunk d) same ∙ itself chunk.start chunk.level)
   where
     itself : (a b : ℕ) → ((a == a) && (b == b)) ≡ true
     itself a b = grind (arith, nat_tests)
-itself_there (c ∷ chunks) (suc place) chunk found =
-    or_right (is_there chunk c) (list_any (is_there chunk) chunks) (itself_there chunks place chunk found)
+itself_there (c ∷ chunks) (suc index) chunk found =
+    or_right (is_there chunk c) (list_any (is_there chunk) chunks) (itself_there chunks index chunk found)
 
 owned_is_lent : (owner : ℕ) (chunk : Chunk) (loans : List Loan)
     → list_any (is_there chunk) (owned_by owner loans) ≡ true → is_lent_in loans chunk ≡ true
@@ -126,16 +126,16 @@ owned_is_lent owner chunk (loan ∷ loans) there = step (is_owned_by owner loan)
         ]
 
 lent_without : (chunks : List Chunk) (chunk : Chunk) (loans : List Loan)
-    → at_place chunks chunk.start chunk.level ≡ false → is_lent_in loans chunk ≡ true
+    → at_span chunks chunk.start chunk.level ≡ false → is_lent_in loans chunk ≡ true
     → is_lent_in (without_all chunks loans) chunk ≡ true
 lent_without chunks chunk [] clear lent = lent
 lent_without chunks chunk (loan ∷ loans) clear lent = elim (or_cases (is_at chunk loan) (is_lent_in loans chunk) lent) [
   | inl here ↦ let both = and_parts (loan.chunk.start == chunk.start) (loan.chunk.level == chunk.level) here in
       ap (λ (b : Bool). is_lent_in (cond (not b) (loan ∷ rest) rest) chunk)
-      (ap (λ (s : ℕ). at_place chunks s loan.chunk.level) (eqb-true loan.chunk.start chunk.start both.0)
-      ∙ ap (λ (l : ℕ). at_place chunks chunk.start l) (eqb-true loan.chunk.level chunk.level both.1) ∙ clear)
+      (ap (λ (s : ℕ). at_span chunks s loan.chunk.level) (eqb-true loan.chunk.start chunk.start both.0)
+      ∙ ap (λ (l : ℕ). at_span chunks chunk.start l) (eqb-true loan.chunk.level chunk.level both.1) ∙ clear)
       ∙ or_left (is_at chunk loan) (is_lent_in rest chunk) here
-  | inr later ↦ step (at_place chunks loan.chunk.start loan.chunk.level) (lent_without chunks chunk loans clear later)
+  | inr later ↦ step (at_span chunks loan.chunk.start loan.chunk.level) (lent_without chunks chunk loans clear later)
 ]
   where
     rest : List Loan
@@ -145,32 +145,32 @@ lent_without chunks chunk (loan ∷ loans) clear lent = elim (or_cases (is_at ch
     step true h = h
     step false h = or_right (is_at chunk loan) (is_lent_in rest chunk) h
 
-pub lent_still : (ledger : Ledger) (account : AccountState) (place : ℕ) (chunk : Chunk) → Serves ledger account
+pub lent_still : (ledger : Ledger) (account : AccountState) (index : ℕ) (chunk : Chunk) → Serves ledger account
     → AreChunks account.space account.chunks
-    → slice_get account.chunks place ≡ Some chunk
-    → is_lent_in (without_all (take place account.chunks) ledger.loans) chunk ≡ true
-lent_still ledger account place chunk served chunks found =
-    lent_without (take place account.chunks) chunk ledger.loans
-    (none_before account.chunks place chunk chunks.apart found)
+    → slice_get account.chunks index ≡ Some chunk
+    → is_lent_in (without_all (take index account.chunks) ledger.loans) chunk ≡ true
+lent_still ledger account index chunk served chunks found =
+    lent_without (take index account.chunks) chunk ledger.loans
+    (none_before account.chunks index chunk chunks.apart found)
     (owned_is_lent account.owner chunk ledger.loans
     (list_any-IsPermutation (is_there chunk) (owned_by account.owner ledger.loans) account.chunks served.chunks
-    ∙ itself_there account.chunks place chunk found))
+    ∙ itself_there account.chunks index chunk found))
 
 -- At the end none of the owner's is lent, and all others are.
 none_owned_at : (owner start level : ℕ) (loans : List Loan) → AllByRecursion (StartsElsewhere start) loans
-    → at_place (owned_by owner loans) start level ≡ false
+    → at_span (owned_by owner loans) start level ≡ false
 none_owned_at owner start level [] others = refl
 none_owned_at owner start level (loan ∷ loans) others =
     step (is_owned_by owner loan) (none_owned_at owner start level loans others.1)
   where
-    step : (b : Bool) → at_place (owned_by owner loans) start level ≡ false
-        → at_place
+    step : (b : Bool) → at_span (owned_by owner loans) start level ≡ false
+        → at_span
         (map (λ (one : Loan). one.chunk)
         (cond b (loan ∷ filter (is_owned_by owner) loans) (filter (is_owned_by owner) loans))) start level ≡ false
     step false h = h
     step true h =
         or_from ((start == loan.chunk.start) && (level == loan.chunk.level))
-        (at_place (owned_by owner loans) start level)
+        (at_span (owned_by owner loans) start level)
         (ap (λ (b : Bool). b && (level == loan.chunk.level))
         (ne_eqb start loan.chunk.start (λ same. others.0 (sym same)))) h
 
@@ -180,10 +180,10 @@ but_the_first : (chunk : Chunk) (chunks : List Chunk) (loans : List Loan)
 but_the_first chunk chunks [] others = refl
 but_the_first chunk chunks (loan ∷ loans) others =
     ap (λ (b : Bool). cond
-    (not ((b && (loan.chunk.level == chunk.level)) || at_place chunks loan.chunk.start loan.chunk.level))
+    (not ((b && (loan.chunk.level == chunk.level)) || at_span chunks loan.chunk.start loan.chunk.level))
     (loan ∷ without_all (chunk ∷ chunks) loans) (without_all (chunk ∷ chunks) loans))
     (ne_eqb loan.chunk.start chunk.start others.0)
-    ∙ ap (λ (l : List Loan). cond (not (at_place chunks loan.chunk.start loan.chunk.level)) (loan ∷ l) l)
+    ∙ ap (λ (l : List Loan). cond (not (at_span chunks loan.chunk.start loan.chunk.level)) (loan ∷ l) l)
     (but_the_first chunk chunks loans others.1)
 
 own_gone : (owner : ℕ) (loans : List Loan) → IsStrictlySortedBy nat_cmp (map start_of loans)
@@ -208,7 +208,7 @@ own_gone owner (loan ∷ loans) sorted =
     step true others same =
         ap (λ (b : Bool). cond (not b) (loan ∷ without_all (loan.chunk ∷ own) loans)
         (without_all (loan.chunk ∷ own) loans))
-        (itself loan.chunk.start loan.chunk.level (at_place own loan.chunk.start loan.chunk.level))
+        (itself loan.chunk.start loan.chunk.level (at_span own loan.chunk.start loan.chunk.level))
         ∙ but_the_first loan.chunk own loans others ∙ same
     step false others same =
         ap (λ (b : Bool). cond (not b) (loan ∷ without_all own loans) (without_all own loans))
@@ -218,8 +218,8 @@ own_gone owner (loan ∷ loans) sorted =
 pub all_gone : (ledger : Ledger) (account : AccountState) → IsSoundLedger ledger → Serves ledger account
     → without_all account.chunks ledger.loans ≡ others_than account.owner ledger.loans
 all_gone ledger account sound served =
-    filter_agree (λ (loan : Loan). not (at_place account.chunks loan.chunk.start loan.chunk.level))
-    (λ (loan : Loan). not (at_place (owned_by account.owner ledger.loans) loan.chunk.start loan.chunk.level))
+    filter_agree (λ (loan : Loan). not (at_span account.chunks loan.chunk.start loan.chunk.level))
+    (λ (loan : Loan). not (at_span (owned_by account.owner ledger.loans) loan.chunk.start loan.chunk.level))
     (λ loan. ap not
     (sym (list_any-IsPermutation (λ (c : Chunk). (loan.chunk.start == c.start) && (loan.chunk.level == c.level))
     (owned_by account.owner ledger.loans) account.chunks served.chunks))) ledger.loans

@@ -35,14 +35,14 @@ keeps_where Balanced e = absurd (cc)
 keeps_where Aggressive e = absurd (cc)
 keeps_where Never e = refl
 
--- The part, by its place in the pool.
-abbrev pub place_of : Chunk → Span → Span
-place_of chunk part = raised_part (chunk.start / root_words * root_words) part
+-- The part, by its span in the pool.
+abbrev pub part_in_pool : Chunk → Span → Span
+part_in_pool chunk part = raised_part (chunk.start / root_words * root_words) part
 
 back : (lender : Lender) (trees : List (List LentLeaf)) (chunk : Chunk) (part : Span) (of : IsOfSpace chunk.start)
     → IsKept lender
     → is_lent_in (loans_from 0 lender.trees.items) chunk ≡ true → TakesBack lender.trees.items chunk part trees
-    → IsBack (ledger_of lender) of.space chunk (place_of chunk part)
+    → IsBack (ledger_of lender) of.space chunk (part_in_pool chunk part)
 back lender trees chunk part of kept lent put =
     is_back (ledger_of lender) trees chunk part of.space kept.sound lent of.here of.there put.loans
     (recursion_from_All AreLeaves trees put.leaves)
@@ -92,7 +92,7 @@ pub released_where_all_stay : (lender : Lender) (trees : List (List LentLeaf)) (
 released_where_all_stay lender trees chunk part kept lent put small =
     same_seen lender chunk (loans_from 0 trees) lender.nodes.granules put.loans
     (λ one. sym (committed_is one lender)
-    ∙ all_stay (ledger_of lender) of.space chunk (place_of chunk part) kept.sound
+    ∙ all_stay (ledger_of lender) of.space chunk (part_in_pool chunk part) kept.sound
     (back lender trees chunk part of kept lent put) small one)
   where
     of : IsOfSpace chunk.start
@@ -100,11 +100,11 @@ released_where_all_stay lender trees chunk part kept lent put small =
 
 -- The granules of the part leave.
 pub record LeaveThere (lender : Lender) (trees : List (List LentLeaf)) (chunk : Chunk) (part : Span) : Type 0 where
-  pub reserved : AreInReserved lender.nodes (first_of lender.policy (place_of chunk part))
-      (count_of lender.policy (place_of chunk part))
+  pub reserved : AreInReserved lender.nodes (first_of lender.policy (part_in_pool chunk part))
+      (count_of lender.policy (part_in_pool chunk part))
   pub released : seen (ledger_of lender) (loans_from 0 trees)
-      (without_granules lender.nodes (first_of lender.policy (place_of chunk part))
-      (count_of lender.policy (place_of chunk part)))
+      (without_granules lender.nodes (first_of lender.policy (part_in_pool chunk part))
+      (count_of lender.policy (part_in_pool chunk part)))
       ≡ with_released (ledger_of lender) chunk
 
 pub released_where_some_leave : (lender : Lender) (trees : List (List LentLeaf)) (chunk : Chunk) (part : Span)
@@ -113,15 +113,15 @@ pub released_where_some_leave : (lender : Lender) (trees : List (List LentLeaf))
     → keeps lender.policy ≡ false → granule_of lender.policy ≤ size_of part.level
     → LeaveThere lender trees chunk part
 released_where_some_leave lender trees chunk part kept lent put leaves large = record {
-  reserved = (is_range lender of.space chunk (place_of chunk part) kept its of.here large).reserved;
+  reserved = (is_range lender of.space chunk (part_in_pool chunk part) kept its of.here large).reserved;
   released = same_seen lender chunk (loans_from 0 trees)
-      (without_granules lender.nodes (first_of lender.policy (place_of chunk part))
-      (count_of lender.policy (place_of chunk part))).granules put.loans
-      (granules_leave lender of.space chunk (place_of chunk part) kept its of.here leaves large);
+      (without_granules lender.nodes (first_of lender.policy (part_in_pool chunk part))
+      (count_of lender.policy (part_in_pool chunk part))).granules put.loans
+      (granules_leave lender of.space chunk (part_in_pool chunk part) kept its of.here leaves large);
 }
   where
     of : IsOfSpace chunk.start
     of = of_space chunk.start
 
-    its : IsBack (ledger_of lender) of.space chunk (place_of chunk part)
+    its : IsBack (ledger_of lender) of.space chunk (part_in_pool chunk part)
     its = back lender trees chunk part of kept lent put

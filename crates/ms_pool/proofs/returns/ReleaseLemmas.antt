@@ -44,16 +44,16 @@ released_is_sound old chunk sound =
     sound_with_fewer old (without_loan chunk old.loans) old.opened old.class_opened sound
     (fewer_without old chunk sound) sound.opened
 
--- What holds of each place of held chunks holds of the chunk's.
-place_has : (P : ℕ → ℕ → Type 0) (chunk : Chunk) (held : List Chunk)
+-- What holds of each span of held chunks holds of the chunk's.
+span_has : (P : ℕ → ℕ → Type 0) (chunk : Chunk) (held : List Chunk)
     → AllByRecursion (λ one. P one.start one.level) held → list_any (is_there chunk) held ≡ true
     → P chunk.start chunk.level
-place_has P chunk [] all there = absurd (cc)
-place_has P chunk (one ∷ held) all there = elim (or_cases (is_there chunk one) (list_any (is_there chunk) held) there) [
+span_has P chunk [] all there = absurd (cc)
+span_has P chunk (one ∷ held) all there = elim (or_cases (is_there chunk one) (list_any (is_there chunk) held) there) [
   | inl here ↦ let both = and_parts (one.start == chunk.start) (one.level == chunk.level) here in
       subst (λ (l : ℕ). P chunk.start l) (eqb-true one.level chunk.level both.1)
       (subst (λ (s : ℕ). P s one.level) (eqb-true one.start chunk.start both.0) all.0)
-  | inr later ↦ place_has P chunk held all.1 later
+  | inr later ↦ span_has P chunk held all.1 later
 ]
 
 reserved_there : (slots : List ℕ) (chunk : Chunk) (held : List Chunk)
@@ -111,7 +111,7 @@ is_back old trees chunk part space sound lent here there loans all within found 
     from = freed.from;
     upto = lies_in_freed (without_chunk chunk (held_in space old)) slots chunk
         (raised_part (chunk.start / root_words * root_words) part)
-        (place_has IsPart chunk (held_in space old)
+        (span_has IsPart chunk (held_in space old)
         (recursion_from_All (λ (one : Chunk). IsPart one.start one.level) (held_in space old) held.parts) is_held)
         reserved (clear_once_out chunk (held_in space old) held.apart is_held) freed;
   };

@@ -16,7 +16,7 @@ use Rattle.ms_pool.specs.Ledger.{Loan}
 use Rattle.ms_pool.specs.Releasing.{is_at, is_lent_in, without_loan}
 use Rattle.ms_pool.proofs.searches.FreeRootLemmas.{chunks_there}
 
--- A chunk is of the place of another.
+-- A chunk is of the span of another.
 abbrev pub is_there : Chunk → Chunk → Bool
 is_there chunk one = (one.start == chunk.start) && (one.level == chunk.level)
 
@@ -51,7 +51,7 @@ held_without space chunk (loan ∷ loans) =
     go false false e f same =
         ap (λ (b : Bool). cond b (loan.chunk ∷ chunks_there space left) (chunks_there space left)) f ∙ same
 
--- A loan of a place of a space is a chunk of it; where no chunk is of the place, all stay.
+-- A loan of a span of a space is a chunk of it; where no chunk is of the span, all stay.
 pub held_there : (space : Space) (chunk : Chunk) (loans : List Loan) → is_in space chunk.start ≡ true
     → is_lent_in loans chunk ≡ true
     → list_any (is_there chunk) (chunks_there space loans) ≡ true

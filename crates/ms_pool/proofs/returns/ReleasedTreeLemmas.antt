@@ -18,11 +18,11 @@ use Rattle.ms_pool.specs.Keeping.{loan_at, loans_from}
 use Rattle.ms_pool.specs.Releasing.{is_at, is_lent_in, without_loan}
 use Rattle.ms_pool.proofs.searches.RootLemmas.{EndsBy, StartsFrom, changed_at_root}
 
--- The chunk's place in a root.
-abbrev pub place_in : Chunk → Span
-place_in chunk = record { start = chunk.start % root_words; level = chunk.level }
+-- The chunk's span in a root.
+abbrev pub span_in : Chunk → Span
+span_in chunk = record { start = chunk.start % root_words; level = chunk.level }
 
--- A leaf and its loan are of the place alike.
+-- A leaf and its loan are of the span alike.
 same_test : (root : ℕ) (chunk : Chunk) (part : Span) (leaf : LentLeaf) → chunk.start ≡ root * root_words + part.start
     → chunk.level ≡ part.level
     → is_at chunk (loan_at root leaf) ≡ is_same part (span_of leaf)
@@ -94,12 +94,12 @@ pub record HasLeaf (trees : List (List LentLeaf)) (first : ℕ) (chunk : Chunk) 
   pub i : ℕ
   pub within : i < length trees
   pub root : chunk.start / root_words ≡ first + i
-  pub lent : is_lent (get_or trees i []) (place_in chunk) ≡ true
+  pub lent : is_lent (get_or trees i []) (span_in chunk) ≡ true
 
 in_tree : (root : ℕ) (chunk : Chunk) (leaves : List LentLeaf)
     → AllByRecursion (λ leaf. leaf.start + size_of leaf.level ≤ root_words) leaves
     → list_any (is_at chunk) (map (loan_at root) leaves) ≡ true
-    → (chunk.start / root_words ≡ root) × (is_lent leaves (place_in chunk) ≡ true)
+    → (chunk.start / root_words ≡ root) × (is_lent leaves (span_in chunk) ≡ true)
 in_tree root chunk [] all there = absurd (cc)
 in_tree root chunk (leaf ∷ leaves) all there =
     elim (or_cases (is_at chunk (loan_at root leaf)) (list_any (is_at chunk) (map (loan_at root) leaves)) there) [
@@ -110,7 +110,7 @@ in_tree root chunk (leaf ∷ leaves) all there =
                 (in_root (leaf.start + root * root_words) chunk.start parts.0 root leaf.start refl fits) parts.1,
           )
       | inr later ↦ let rest = in_tree root chunk leaves all.1 later in
-          (rest.0, or_later (is_same (place_in chunk) (span_of leaf)) (is_lent leaves (place_in chunk)) rest.1)
+          (rest.0, or_later (is_same (span_in chunk) (span_of leaf)) (is_lent leaves (span_in chunk)) rest.1)
     ]
   where
     at_start : (a c : ℕ) → (a == c) ≡ true → (root b : ℕ) → a ≡ b + root * root_words → b < root_words
@@ -152,10 +152,10 @@ has_leaf (tree ∷ trees) first chunk all there =
 pub leaf_there : (trees : List (List LentLeaf)) (chunk : Chunk) → AllByRecursion AreLeaves trees
     → is_lent_in (loans_from 0 trees) chunk ≡ true
     → (chunk.start / root_words < length trees)
-    × (is_lent (get_or trees (chunk.start / root_words) []) (place_in chunk) ≡ true)
+    × (is_lent (get_or trees (chunk.start / root_words) []) (span_in chunk) ≡ true)
 leaf_there trees chunk all there = (
   subst (λ (i : ℕ). i < length trees) (sym same) leaf.within,
-  subst (λ (i : ℕ). is_lent (get_or trees i []) (place_in chunk) ≡ true) (sym same) leaf.lent,
+  subst (λ (i : ℕ). is_lent (get_or trees i []) (span_in chunk) ≡ true) (sym same) leaf.lent,
 )
   where
     leaf : HasLeaf trees 0 chunk

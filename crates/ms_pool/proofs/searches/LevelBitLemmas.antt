@@ -75,7 +75,7 @@ pub highest_below : (levels end : ℕ) → end ≤ 13 → 0 < levels % (1 * 2 ^ 
     → IsHighestBelow levels end (15 - count_leading_zeros 16 (levels % (1 * 2 ^ end % 2 ^ 16)))
 highest_below levels end few some =
     subst (λ (n : ℕ). IsHighestBelow levels end (15 - count_leading_zeros 16 n)) (sym (below_end levels end few))
-    (subst (IsHighestBelow levels end) (sym place) (record {
+    (subst (IsHighestBelow levels end) (sym index) (record {
       below = elim (cases_lt top.0 end) [
         | inl low ↦ low
         | inr high ↦ absurd (omega (arith, top.2, under, pow_mono high))
@@ -96,8 +96,8 @@ highest_below levels end few some =
         (subst (λ (n : ℕ). 0 < n) (below_end levels end few) some)
         (omega (arith, under, power_fits))
 
-    place : 15 - count_leading_zeros 16 (levels % 2 ^ end) ≡ top.0
-    place = omega (arith, top.1)
+    index : 15 - count_leading_zeros 16 (levels % 2 ^ end) ≡ top.0
+    index = omega (arith, top.1)
 
 -- A level whose bit is clear among those from one on lies below it.
 pub below_small : (low level : ℕ) → level < 16 → has_level (2 ^ 16 - 2 ^ low) level ≡ false → level < low

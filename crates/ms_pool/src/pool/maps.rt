@@ -12,7 +12,7 @@ use std::alloc::{AllocError, Global};
 impl Pool {
     /// Returns the map of each root of each reserved node, in order of address, those of the class
     /// space last. Takes memory for the list alone, and fails only where that is refused; visits
-    /// each leaf of each root. After HotSpot's VM.metaspace vsmap; its places are this project's
+    /// each leaf of each root. After HotSpot's VM.metaspace vsmap; its cells are this project's
     /// choice.
     pub fn maps(&self, alloc: Global) -> Result<Vec<RootMap>, AllocError>
         ensures { IfOk result (λ maps. map map_in maps.items

@@ -68,10 +68,10 @@ module _ (policy : Policy) (was : ArenaView) (words : ℕ) (answer : Result Bloc
   from_asks None true before its = from_takes before its
   from_asks None false before its = from_takes before its
 
-  from_place : (o : Option (ℕ × ArenaState)) (before : SeatState)
+  from_position : (o : Option (ℕ × ArenaState)) (before : SeatState)
       → FindsPlace GrewOver TookOver policy was (block_words words) o before answer is after → TellsArena words answer
-  from_place (Some place) before its = made _ its.0 refl
-  from_place None before its =
+  from_position (Some place) before its = made _ its.0 refl
+  from_position None before its =
       from_asks (current was.books) (asks_growth was.kind was.space was.books (current was.books) (block_words words))
       before its
 
@@ -81,7 +81,7 @@ pub tells : (policy : Policy) (was : ArenaView) (words : ℕ) (before : SeatStat
 tells policy was words before answer is after (inl refused) =
     subst (TellsArena words) (sym refused.answer_is) (inl refused.cause)
 tells policy was words before answer is after (inr its) =
-    from_place policy was words answer is after its.0 (placed was.books (block_words words)) before its.1
+    from_position policy was words answer is after its.0 (placed was.books (block_words words)) before its.1
 
 -- Where no block was made, the loader's own lines say why, or it was want.
 abbrev pub IsRefusedOwn : OwnLoader → Space → ℕ → ℕ → Refusal → Option OwnLoader → Type 0
@@ -94,19 +94,19 @@ module _ (space : Space) (was : LoaderView) (block words : ℕ) where
       → IsRefusedOwn (own_part was) space block words refusal (Some (own_part was))
   of_want refusal unused askable want = inr ((unused, askable.some, askable.fits), want, refl)
 
-  of_place : (refusal : Refusal) → named was.state.blocks block ≡ None → PlaceRefused words refusal
+  of_position : (refusal : Refusal) → named was.state.blocks block ≡ None → PlaceRefused words refusal
       → IsRefusedOwn (own_part was) space block words refusal (Some (own_part was))
-  of_place ZeroWords unused cause = inl (unused, cause, refl)
-  of_place TooLarge unused cause = inl (unused, cause, refl)
-  of_place OutOfMemory unused cause = of_want OutOfMemory unused cause tt
-  of_place _ unused cause = absurd cause
+  of_position ZeroWords unused cause = inl (unused, cause, refl)
+  of_position TooLarge unused cause = inl (unused, cause, refl)
+  of_position OutOfMemory unused cause = of_want OutOfMemory unused cause tt
+  of_position _ unused cause = absurd cause
 
   of_name : (refusal : Refusal) → NameRefused was block words refusal
       → IsRefusedOwn (own_part was) space block words refusal (Some (own_part was))
   of_name BlockExists cause = inl (cause.0, cause.1, refl)
-  of_name ZeroWords cause = of_place ZeroWords cause.0 cause.1
-  of_name TooLarge cause = of_place TooLarge cause.0 cause.1
-  of_name OutOfMemory cause = of_place OutOfMemory cause.0 cause.1
+  of_name ZeroWords cause = of_position ZeroWords cause.0 cause.1
+  of_name TooLarge cause = of_position TooLarge cause.0 cause.1
+  of_name OutOfMemory cause = of_position OutOfMemory cause.0 cause.1
   of_name _ cause = absurd cause.1
 
 abbrev refused_as : Refusal → Result Block Refusal
@@ -127,7 +127,7 @@ is_answered space policy old new was is block words refusal (inl not) =
 is_answered space policy old new was is block words refusal (inr asks) =
     subst (λ (v : LoaderView). IsRefusedOwn (own_part was) space block words refusal (Some (own_part v)))
     (sym asks.follows) (elim how [
-      | inl place ↦ of_place space was block words refusal asks.unused place
+      | inl place ↦ of_position space was block words refusal asks.unused place
       | inr want ↦ of_want space was block words refusal asks.unused want.0 want.1
     ])
   where

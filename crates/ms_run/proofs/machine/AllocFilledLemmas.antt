@@ -32,7 +32,7 @@ grows : (n : ℕ) (old : Ledger) (account : AccountState) (start total : ℕ) (m
     (answer : Result Span Refusal) (new : Ledger) → GrewSeen old account start total may_enlarge answer new
     → GrewAtAll (filled n old) account start total may_enlarge answer (filled n new)
 grows n old account start total may_enlarge (Ok span) new its = record {
-  place = its.place;
+  index = its.index;
   chunk = its.chunk;
   found = its.found;
   starts = its.starts;

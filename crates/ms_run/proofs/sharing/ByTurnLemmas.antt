@@ -12,8 +12,8 @@ use Rattle.ms_trace.specs.Steps.{step_of}
 use Rattle.ms_run.specs.declared.share.Share.{Share}
 use Rattle.ms_run.specs.declared.share.Task.{Task}
 use Rattle.ms_run.specs.Dealing.{AreWorkersFrom}
-use Rattle.ms_run.specs.Shares.{AreWorkedByTurn, HaveTasks, place_for, task_of, tasks_at, tasks_of}
-use Rattle.ms_run.specs.Turn.{HasOwnShare, HaveOwnShares, TurnState, place_in, worker_in}
+use Rattle.ms_run.specs.Shares.{AreWorkedByTurn, HaveTasks, position_for, task_of, tasks_at, tasks_of}
+use Rattle.ms_run.specs.Turn.{HasOwnShare, HaveOwnShares, TurnState, position_in, worker_in}
 use Rattle.ms_run.proofs.sharing.StandByLemmas.{same_tasks}
 
 -- No share, shares with one more at their end, and shares with one before them.
@@ -56,32 +56,32 @@ module _ (turn : TurnState) (at : ℕ) where
       AllByRecursion (λ (task : Task). slice_index_or turn.active at 0 ≡ worker_in turn (loader_of task.step)) tasks
 
   one_more : (line : Line) (lines : List Line) (step : Option Step) → HasOwnShare turn step
-      → AreOwn (tasks_at (place_in turn) at lines)
-      → AreOwn (filter (λ (task : Task). place_in turn (loader_of task.step) == at) (task_of line step (tasks_of lines)))
+      → AreOwn (tasks_at (position_in turn) at lines)
+      → AreOwn (filter (λ (task : Task). position_in turn (loader_of task.step) == at) (task_of line step (tasks_of lines)))
   one_more line lines None is are = are
   one_more line lines (Some step) is are =
-      elim (place_in turn (loader_of step) == at) as (λ b. (place_in turn (loader_of step) == at) ≡ b
-      → AreOwn (cond b (record { line = line.number; step = step } ∷ tasks_at (place_in turn) at lines)
-      (tasks_at (place_in turn) at lines))) [
+      elim (position_in turn (loader_of step) == at) as (λ b. (position_in turn (loader_of step) == at) ≡ b
+      → AreOwn (cond b (record { line = line.number; step = step } ∷ tasks_at (position_in turn) at lines)
+      (tasks_at (position_in turn) at lines))) [
         | true ↦ λ here. (
-          ap (λ (n : ℕ). slice_index_or turn.active n 0) (sym (eqb-true (place_in turn (loader_of step)) at here)) ∙ is,
+          ap (λ (n : ℕ). slice_index_or turn.active n 0) (sym (eqb-true (position_in turn (loader_of step)) at here)) ∙ is,
           are,
         )
         | false ↦ λ elsewhere. are
       ] refl
 
   own_tasks : (lines : List Line) → AllByRecursion (λ (line : Line). HasOwnShare turn (step_of line.command)) lines
-      → AreOwn (tasks_at (place_in turn) at lines)
+      → AreOwn (tasks_at (position_in turn) at lines)
   own_tasks [] shared = tt
   own_tasks (line ∷ lines) shared = one_more line lines (step_of line.command) shared.0 (own_tasks lines shared.1)
 
 -- Each share that is dealt has only tasks of its worker.
 pub worked_by_turn : (turn : TurnState) (lines : List Line) (shares : List Share) → HaveOwnShares turn lines
-    → AreWorkersFrom turn.active 0 shares → HaveTasks (place_for (place_in turn) lines) shares lines
+    → AreWorkersFrom turn.active 0 shares → HaveTasks (position_for (position_in turn) lines) shares lines
     → AreWorkedByTurn (worker_in turn) shares
 worked_by_turn turn lines shares shared are have at share found =
     subst (λ (tasks : List Task). All (λ (task : Task). share.worker ≡ worker_in turn (loader_of task.step)) tasks)
-    (sym (have at share found ∙ same_tasks (place_in turn) lines at))
-    (subst (λ (worker : ℕ). All (λ (task : Task). worker ≡ worker_in turn (loader_of task.step)) (tasks_at (place_in turn) at lines))
+    (sym (have at share found ∙ same_tasks (position_in turn) lines at))
+    (subst (λ (worker : ℕ). All (λ (task : Task). worker ≡ worker_in turn (loader_of task.step)) (tasks_at (position_in turn) at lines))
     (sym (worker_at turn.active 0 shares at share are found ∙ ap (λ (n : ℕ). slice_index_or turn.active n 0) (omega arith)))
-    (All-from_recursion _ (tasks_at (place_in turn) at lines) (own_tasks turn at lines (recursion_from_All _ lines shared))))
+    (All-from_recursion _ (tasks_at (position_in turn) at lines) (own_tasks turn at lines (recursion_from_All _ lines shared))))

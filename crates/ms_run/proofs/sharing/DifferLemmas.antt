@@ -6,7 +6,7 @@ use Rattle.std.specs.List.{AllByRecursion}
 use Rattle.std.proofs.lemmas.Bool.{cases_eq}
 use Rattle.ms_base.specs.Names.{named}
 use Rattle.ms_run.specs.declared.share.Share.{Share}
-use Rattle.ms_run.specs.Shares.{Place, AreApart}
+use Rattle.ms_run.specs.Shares.{Position, AreApart}
 use Rattle.ms_run.specs.Joined.{HaveOtherNames, IsJoined}
 use Rattle.ms_run.proofs.sharing.GatherLemmas.{Loaders}
 
@@ -25,43 +25,43 @@ none_differ : (shares : List Share) → DifferFrom [] shares
 none_differ [] = tt
 none_differ (share ∷ shares) = ((λ name. inl refl), none_differ shares)
 
--- Of two shares one isn't the place of a name's lines.
-abbrev AreApartFrom : Place → ℕ → List Share → Type 0
-AreApartFrom place first shares =
-    (at : ℕ) (share : Share) (name : ℕ) → slice_get shares at ≡ Some share → (place (Some name) ≡ first + at → ⊥)
+-- Of two shares one isn't the position of a name's lines.
+abbrev AreApartFrom : Position → ℕ → List Share → Type 0
+AreApartFrom position first shares =
+    (at : ℕ) (share : Share) (name : ℕ) → slice_get shares at ≡ Some share → (position (Some name) ≡ first + at → ⊥)
     → named share.loaders name ≡ None
 
-later_differ : (place : Place) (first more : ℕ) (share : Share) (shares : List Share)
-    → ((name : ℕ) → (place (Some name) ≡ first → ⊥) → named share.loaders name ≡ None)
-    → first < more → AreApartFrom place more shares → DifferFrom share.loaders shares
-later_differ place first more share [] own less apart = tt
-later_differ place first more share (other ∷ shares) own less apart = (
-  (λ name. elim (cases_eq (place (Some name)) first) [
+later_differ : (position : Position) (first more : ℕ) (share : Share) (shares : List Share)
+    → ((name : ℕ) → (position (Some name) ≡ first → ⊥) → named share.loaders name ≡ None)
+    → first < more → AreApartFrom position more shares → DifferFrom share.loaders shares
+later_differ position first more share [] own less apart = tt
+later_differ position first more share (other ∷ shares) own less apart = (
+  (λ name. elim (cases_eq (position (Some name)) first) [
     | inl here ↦ inr (apart 0 other name refl (λ e. omega (arith, e, here, less)))
     | inr past ↦ inl (own name past)
   ]),
-  later_differ place first (more + 1) share shares own (omega (arith, less))
+  later_differ position first (more + 1) share shares own (omega (arith, less))
       (λ at one name there past. apart (suc at) one name there (λ e. past (omega (arith, e)))),
 )
 
-all_differ : (place : Place) (first : ℕ) (shares : List Share) → AreApartFrom place first shares → Differ shares
-all_differ place first [] apart = tt
-all_differ place first (share ∷ shares) apart = (
-  later_differ place first (first + 1) share shares
+all_differ : (position : Position) (first : ℕ) (shares : List Share) → AreApartFrom position first shares → Differ shares
+all_differ position first [] apart = tt
+all_differ position first (share ∷ shares) apart = (
+  later_differ position first (first + 1) share shares
       (λ name past. apart 0 share name refl (λ e. past (omega (arith, e)))) (omega arith) rest,
-  all_differ place (first + 1) shares rest,
+  all_differ position (first + 1) shares rest,
 )
   where
-    rest : AreApartFrom place (first + 1) shares
+    rest : AreApartFrom position (first + 1) shares
     rest at one name there past = apart (suc at) one name there (λ e. past (omega (arith, e)))
 
-pub begin_apart : (place : Place) (loaders : Loaders) (left all : List Share) → AreApart place all → loaders ≡ []
+pub begin_apart : (position : Position) (loaders : Loaders) (left all : List Share) → AreApart position all → loaders ≡ []
     → left ≡ all → AreOthers loaders left
-begin_apart place loaders left all apart none same =
+begin_apart position loaders left all apart none same =
     subst (λ (l : List Share). AreOthers loaders l) (sym same)
     (subst (λ (l : Loaders). AreOthers l all) (sym none) (
       none_differ all,
-      all_differ place 0 all (λ at share name there past. apart at share name there (λ e. past (omega (arith, e)))),
+      all_differ position 0 all (λ at share name there past. apart at share name there (λ e. past (omega (arith, e)))),
     ))
 
 joined_differ : (loaders new : Loaders) (share : Share) (shares : List Share) → IsJoined loaders share.loaders new

@@ -24,7 +24,7 @@ use Rattle.ms_loaders.specs.Loader.{LoaderView}
 use Rattle.ms_loaders.specs.Loaders.{InsertRefused}
 use Rattle.ms_loaders.specs.System.{states_of}
 use Rattle.ms_run.specs.declared.share.Share.{Share}
-use Rattle.ms_run.specs.Shares.{Place, AreApart, IsGathered}
+use Rattle.ms_run.specs.Shares.{Position, AreApart, IsGathered}
 use Rattle.ms_run.specs.Joined.{HaveOtherNames, IsJoined, AreJoined, IsWantOrUnsettled}
 use Rattle.ms_loaders.proofs.steps.UnloadLemmas.{state_of}
 use Rattle.ms_run.proofs.TouchLemmas.{named_states}
@@ -207,17 +207,17 @@ joined_named name old (share ∷ shares) new (suc at) own joined there apart non
     (λ other one here differ. apart (suc other) one here (λ e. differ (omega (arith, e))))
     (joined.1.others name (apart 0 share refl (λ e. omega (arith, e))) ∙ none)
 
-pub views_gathered : (place : Place) (shares : List Share) (loaders : Loaders) → AreJoined [] shares loaders
-    → AreApart place shares → (at : ℕ) (share : Share) (name : ℕ) → slice_get shares at ≡ Some share
-    → place (Some name) ≡ at → named loaders name ≡ named share.loaders name
-views_gathered place shares loaders joined apart at share name there goes =
+pub views_gathered : (position : Position) (shares : List Share) (loaders : Loaders) → AreJoined [] shares loaders
+    → AreApart position shares → (at : ℕ) (share : Share) (name : ℕ) → slice_get shares at ≡ Some share
+    → position (Some name) ≡ at → named loaders name ≡ named share.loaders name
+views_gathered position shares loaders joined apart at share name there goes =
     joined_named name [] shares loaders at share joined there
     (λ other one here differ. apart other one name here (λ e. differ (sym e ∙ goes))) refl
 
-pub all_gathered : (place : Place) (shares : List Share) (loaders : Loaders) → AreJoined [] shares loaders
-    → AreApart place shares
-    → IsGathered place shares (states_of loaders)
-all_gathered place shares loaders joined apart at share name there goes =
+pub all_gathered : (position : Position) (shares : List Share) (loaders : Loaders) → AreJoined [] shares loaders
+    → AreApart position shares
+    → IsGathered position shares (states_of loaders)
+all_gathered position shares loaders joined apart at share name there goes =
     named_states loaders name
-    ∙ ap (option_map state_of) (views_gathered place shares loaders joined apart at share name there goes)
+    ∙ ap (option_map state_of) (views_gathered position shares loaders joined apart at share name there goes)
     ∙ sym (named_states share.loaders name)

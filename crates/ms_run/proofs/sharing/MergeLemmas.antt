@@ -21,27 +21,27 @@ use Rattle.ms_base.specs.Run.Own.{Said}
 use Rattle.ms_run.specs.Replay.{AreSaid}
 use Rattle.ms_run.specs.declared.share.Task.{Task}
 use Rattle.ms_run.specs.declared.share.Share.{Share}
-use Rattle.ms_run.specs.Shares.{said_in, Place, tasks_at, AreAnswered, AreMerged}
+use Rattle.ms_run.specs.Shares.{said_in, Position, tasks_at, AreAnswered, AreMerged}
 use Rattle.ms_run.proofs.sharing.TaskLemmas.{all_there, at_next, said_append, said_more, task_in}
 
--- The lines up to a place are merged.
-pub record SoFar (place : Place) (lines : List Line) (shares : List Share) (before : List Answer) (at : ℕ)
+-- The lines up to a position are merged.
+pub record SoFar (position : Position) (lines : List Line) (shares : List Share) (before : List Answer) (at : ℕ)
     (answers : List Answer) (taken : List ℕ) : Type 0 where
   pub added : List Answer
   pub said : List Said
   pub is : answers ≡ before ++ added
   pub said_are : AreSaid (take at lines) added said
   pub long : length taken ≡ length shares
-  pub counts : (k d : ℕ) → k < length shares → get_or taken k d ≡ length (tasks_at place k (take at lines))
+  pub counts : (k d : ℕ) → k < length shares → get_or taken k d ≡ length (tasks_at position k (take at lines))
   pub told : (k : ℕ) (share : Share) → slice_get shares k ≡ Some share
-      → filter (λ (s : Said). place (loader_of s.0) == k) said
-      ≡ take (length (tasks_at place k (take at lines))) (said_in share.tasks.items share.replies.items)
+      → filter (λ (s : Said). position (loader_of s.0) == k) said
+      ≡ take (length (tasks_at position k (take at lines))) (said_in share.tasks.items share.replies.items)
 
-pub starts : (place : Place) (lines : List Line) (shares : List Share) (before : List Answer) (count : ℕ)
+pub starts : (position : Position) (lines : List Line) (shares : List Share) (before : List Answer) (count : ℕ)
     (taken : List ℕ)
     → taken ≡ replicate count 0 → length taken ≡ count → count ≡ length shares
-    → SoFar place lines shares before 0 before taken
-starts place lines shares before count taken zeros long all = record {
+    → SoFar position lines shares before 0 before taken
+starts position lines shares before count taken zeros long all = record {
   added = [];
   said = [];
   is = sym (append-nil before);
@@ -52,23 +52,23 @@ starts place lines shares before count taken zeros long all = record {
   told = λ k share found. refl;
 }
 
--- The next line: its step, the place of its share, and what stands there.
-pub record Next (place : Place) (lines : List Line) (shares : List Share) (at : ℕ) (taken : List ℕ) (line : Line)
+-- The next line: its step, the position of its share, and what stands there.
+pub record Next (position : Position) (lines : List Line) (shares : List Share) (at : ℕ) (taken : List ℕ) (line : Line)
     (step : Step) (there : ℕ) (share : Share) (next : ℕ) : Type 0 where
   pub more : take (at + 1) lines ≡ take at lines ++ line ∷ []
   pub asks : step_of line.command ≡ Some step
-  pub goes : there ≡ place (loader_of step)
+  pub goes : there ≡ position (loader_of step)
   pub found : slice_get shares there ≡ Some share
   pub is_next : next ≡ get_or taken there next
 
-pub next_line : (place : Place) (lines : List Line) (shares : List Share) (at : ℕ) (taken : List ℕ) (line : Line)
+pub next_line : (position : Position) (lines : List Line) (shares : List Share) (at : ℕ) (taken : List ℕ) (line : Line)
     (there : ℕ) (share : Share) (next : ℕ) → line ≡ get_or lines at line
     → (asked : (step : Step) × (step_of (get_or lines at line).command ≡ Some step))
-    → ((step : Step) → step_of line.command ≡ Some step → there ≡ place (loader_of step))
+    → ((step : Step) → step_of line.command ≡ Some step → there ≡ position (loader_of step))
     → at < length lines
     → slice_get shares there ≡ Some share → next ≡ get_or taken there next
-    → Next place lines shares at taken line asked.0 there share next
-next_line place lines shares at taken line there share next is asked goes within found is_next =
+    → Next position lines shares at taken line asked.0 there share next
+next_line position lines shares at taken line there share next is asked goes within found is_next =
     let asks = ap (λ (l : Line). step_of l.command) is ∙ asked.1 in
     record {
       more = take_more lines at line within ∙ ap (λ (l : Line). take at lines ++ l ∷ []) (sym is);
@@ -84,28 +84,28 @@ pub record HasReply (share : Share) (next : ℕ) (task : Task) : Type 0 where
   pub in_replies : next < length share.replies.items
   pub task_is : get_or share.tasks.items next task ≡ task
 
-pub has_reply : (place : Place) (lines : List Line) (shares : List Share) (before : List Answer) (at : ℕ)
+pub has_reply : (position : Position) (lines : List Line) (shares : List Share) (before : List Answer) (at : ℕ)
     (answers : List Answer) (taken : List ℕ)
     (line : Line) (step : Step) (there : ℕ) (share : Share) (next : ℕ)
-    → AreAnswered place shares lines → SoFar place lines shares before at answers taken
-    → Next place lines shares at taken line step there share next
+    → AreAnswered position shares lines → SoFar position lines shares before at answers taken
+    → Next position lines shares at taken line step there share next
     → HasReply share next (task_in line step)
-has_reply place lines shares before at answers taken line step there share next answered so_far goes_on =
+has_reply position lines shares before at answers taken line step there share next answered so_far goes_on =
     record { in_tasks = in_tasks; in_replies = in_replies; task_is = task_is }
   where
     firsts : List Task
-    firsts = tasks_at place (place (loader_of step)) (take at lines)
+    firsts = tasks_at position (position (loader_of step)) (take at lines)
 
     later : List Task
-    later = tasks_at place (place (loader_of step)) (drop (at + 1) lines)
+    later = tasks_at position (position (loader_of step)) (drop (at + 1) lines)
 
     count : next ≡ length firsts
     count = goes_on.is_next ∙ so_far.counts there next (slice_get_within shares there share goes_on.found)
-        ∙ ap (λ (k : ℕ). length (tasks_at place k (take at lines))) goes_on.goes
+        ∙ ap (λ (k : ℕ). length (tasks_at position k (take at lines))) goes_on.goes
 
     tasks : share.tasks.items ≡ firsts ++ task_in line step ∷ later
-    tasks = (answered there share goes_on.found).0 ∙ ap (λ (k : ℕ). tasks_at place k lines) goes_on.goes
-        ∙ all_there place lines at line step goes_on.more goes_on.asks
+    tasks = (answered there share goes_on.found).0 ∙ ap (λ (k : ℕ). tasks_at position k lines) goes_on.goes
+        ∙ all_there position lines at line step goes_on.more goes_on.asks
 
     in_tasks : next < length share.tasks.items
     in_tasks = omega (arith, count, ap length tasks, length-append firsts (task_in line step ∷ later))
@@ -136,15 +136,15 @@ counted true count firsts task one same = one refl ∙ sym (length-append firsts
 counted false count firsts task one same = same refl ∙ ap length (sym (append-nil firsts))
 
 -- With its reply the next line is merged.
-pub merges_next : (place : Place) (lines : List Line) (shares : List Share) (before : List Answer) (at : ℕ)
+pub merges_next : (position : Position) (lines : List Line) (shares : List Share) (before : List Answer) (at : ℕ)
     (answers : List Answer) (taken : List ℕ)
     (line : Line) (step : Step) (there : ℕ) (share : Share) (next : ℕ) (reply : Reply)
-    → AreAnswered place shares lines → SoFar place lines shares before at answers taken
-    → Next place lines shares at taken line step there share next
+    → AreAnswered position shares lines → SoFar position lines shares before at answers taken
+    → Next position lines shares at taken line step there share next
     → reply ≡ get_or share.replies.items next reply
-    → SoFar place lines shares before (at + 1)
+    → SoFar position lines shares before (at + 1)
     (answers ++ record { line = line.number; reply = reply; report = None } ∷ []) (slice_set taken there (next + 1))
-merges_next place lines shares before at answers taken line step there share next reply answered so_far goes_on
+merges_next position lines shares before at answers taken line step there share next reply answered so_far goes_on
     reply_is =
     record {
       added = so_far.added ++ answer ∷ [];
@@ -163,42 +163,42 @@ merges_next place lines shares before at answers taken line step there share nex
     answer = record { line = line.number; reply = reply; report = None }
 
     firsts : ℕ → List Task
-    firsts k = tasks_at place k (take at lines)
+    firsts k = tasks_at position k (take at lines)
 
     within : there < length taken
     within = omega (arith, slice_get_within shares there share goes_on.found, so_far.long)
 
-    here : (k : ℕ) → (place (loader_of step) == k) ≡ true → there ≡ k
-    here k e = goes_on.goes ∙ eqb-true (place (loader_of step)) k e
+    here : (k : ℕ) → (position (loader_of step) == k) ≡ true → there ≡ k
+    here k e = goes_on.goes ∙ eqb-true (position (loader_of step)) k e
 
     next_is : next ≡ length (firsts there)
     next_is = goes_on.is_next ∙ so_far.counts there next (slice_get_within shares there share goes_on.found)
 
     more : (k : ℕ)
-        → tasks_at place k (take (at + 1) lines)
-        ≡ firsts k ++ cond (place (loader_of step) == k) (task_in line step ∷ []) []
-    more k = at_next place k lines at line step goes_on.more goes_on.asks
+        → tasks_at position k (take (at + 1) lines)
+        ≡ firsts k ++ cond (position (loader_of step) == k) (task_in line step ∷ []) []
+    more k = at_next position k lines at line step goes_on.more goes_on.asks
 
     counts : (k d : ℕ) → k < length shares
-        → get_or (slice_set taken there (next + 1)) k d ≡ length (tasks_at place k (take (at + 1) lines))
+        → get_or (slice_set taken there (next + 1)) k d ≡ length (tasks_at position k (take (at + 1) lines))
     counts k d inside =
-        counted (place (loader_of step) == k) (get_or (slice_set taken there (next + 1)) k d) (firsts k)
+        counted (position (loader_of step) == k) (get_or (slice_set taken there (next + 1)) k d) (firsts k)
         (task_in line step)
         (λ e. ap (λ (j : ℕ). get_or (slice_set taken there (next + 1)) j d) (sym (here k e))
         ∙ get_or-set_same taken there (next + 1) d within
         ∙ ap (λ (n : ℕ). n + 1) next_is ∙ ap (λ (j : ℕ). length (firsts j) + 1) (here k e))
         (λ e. get_or-set_other taken there k (next + 1) d
-        (λ same. eqb-false (place (loader_of step)) k e (sym goes_on.goes ∙ sym same)) ∙ so_far.counts k d inside)
+        (λ same. eqb-false (position (loader_of step)) k e (sym goes_on.goes ∙ sym same)) ∙ so_far.counts k d inside)
         ∙ ap length (sym (more k))
 
-    one_more : (k : ℕ) (other : Share) → slice_get shares k ≡ Some other → (place (loader_of step) == k) ≡ true
+    one_more : (k : ℕ) (other : Share) → slice_get shares k ≡ Some other → (position (loader_of step) == k) ≡ true
         → take (length (firsts k) + 1) (said_in other.tasks.items other.replies.items)
         ≡ take (length (firsts k)) (said_in other.tasks.items other.replies.items) ++ (step, reply) ∷ []
     one_more k other found e =
         let same : share ≡ other = same_Some share other (sym goes_on.found ∙ ap (slice_get shares) (here k e) ∙ found)
         in
         let has =
-        has_reply place lines shares before at answers taken line step there share next answered so_far goes_on in
+        has_reply position lines shares before at answers taken line step there share next answered so_far goes_on in
         let said_so =
         said_more share.tasks.items share.replies.items next (task_in line step) reply has.in_tasks has.in_replies
         has.task_is reply_is in
@@ -209,22 +209,22 @@ merges_next place lines shares before at answers taken line step there share nex
         ≡ take next (said_in s.tasks.items s.replies.items) ++ (step, reply) ∷ []) same said_so)
 
     told : (k : ℕ) (other : Share) → slice_get shares k ≡ Some other
-        → filter (λ (s : Said). place (loader_of s.0) == k) (so_far.said ++ (step, reply) ∷ [])
-        ≡ take (length (tasks_at place k (take (at + 1) lines))) (said_in other.tasks.items other.replies.items)
+        → filter (λ (s : Said). position (loader_of s.0) == k) (so_far.said ++ (step, reply) ∷ [])
+        ≡ take (length (tasks_at position k (take (at + 1) lines))) (said_in other.tasks.items other.replies.items)
     told k other found =
-        filter-append (λ (s : Said). place (loader_of s.0) == k) so_far.said ((step, reply) ∷ [])
-        ∙ grows (place (loader_of step) == k) (filter (λ (s : Said). place (loader_of s.0) == k) so_far.said)
+        filter-append (λ (s : Said). position (loader_of s.0) == k) so_far.said ((step, reply) ∷ [])
+        ∙ grows (position (loader_of step) == k) (filter (λ (s : Said). position (loader_of s.0) == k) so_far.said)
         (step, reply) (firsts k) (task_in line step)
         (said_in other.tasks.items other.replies.items) (so_far.told k other found) (one_more k other found)
         ∙ ap (λ (l : List Task). take (length l) (said_in other.tasks.items other.replies.items)) (sym (more k))
 
 -- Once all lines are merged, all that was said in the shares is.
-pub all_merged : (place : Place) (lines : List Line) (shares : List Share) (before : List Answer) (at : ℕ)
+pub all_merged : (position : Position) (lines : List Line) (shares : List Share) (before : List Answer) (at : ℕ)
     (answers : List Answer) (taken : List ℕ)
-    → AreAnswered place shares lines → SoFar place lines shares before at answers taken → length lines ≤ at
+    → AreAnswered position shares lines → SoFar position lines shares before at answers taken → length lines ≤ at
     → (added : List Answer) × (said : List Said) × (answers ≡ before ++ added) × AreSaid lines added said
-    × AreMerged place shares said
-all_merged place lines shares before at answers taken answered so_far ends = (
+    × AreMerged position shares said
+all_merged position lines shares before at answers taken answered so_far ends = (
   so_far.added,
   so_far.said,
   so_far.is,
@@ -239,10 +239,10 @@ all_merged place lines shares before at answers taken answered so_far ends = (
     short tasks replies =
         omega (arith, length-zip (map (λ (t : Task). t.step) tasks) replies, length-map tasks (λ (t : Task). t.step))
 
-    merged : AreMerged place shares so_far.said
+    merged : AreMerged position shares so_far.said
     merged k share found =
         let its = answered k share found in
-        let count = ap (λ (l : List Line). length (tasks_at place k l)) whole ∙ ap length (sym its.0) in
+        let count = ap (λ (l : List Line). length (tasks_at position k l)) whole ∙ ap length (sym its.0) in
         so_far.told k share found ∙ ap (λ (n : ℕ). take n (said_in share.tasks.items share.replies.items)) count
         ∙ take_all (length share.tasks.items) (said_in share.tasks.items share.replies.items)
         (short share.tasks.items share.replies.items)

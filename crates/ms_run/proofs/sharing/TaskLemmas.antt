@@ -1,4 +1,4 @@
--- The tasks of lines at a place, and what is said of them. For `merge`.
+-- The tasks of lines at a position, and what is said of them. For `merge`.
 use Rattle.std.proofs.Common.{◌≡◌, ◌<◌, ◌+◌, ◌==◌, ℕ, Bool, cond, Some, None, Option, List, [], ◌∷◌, ◌++◌, map, length}
 use Rattle.std.proofs.Common.{refl, sym, ap, ◌∙◌, arith, get_or, take, drop, append_assoc, eq-eqb}
 use Rattle.std.specs.List.{filter}
@@ -14,7 +14,7 @@ use Rattle.ms_loaders.specs.declared.replies.Answer.{Answer}
 use Rattle.ms_base.specs.Run.Own.{Said}
 use Rattle.ms_run.specs.Replay.{AreSaid}
 use Rattle.ms_run.specs.declared.share.Task.{Task}
-use Rattle.ms_run.specs.Shares.{said_in, Place, task_of, tasks_of, tasks_at}
+use Rattle.ms_run.specs.Shares.{said_in, Position, task_of, tasks_of, tasks_at}
 
 -- What is said of lines, and of others after them.
 pub said_append : (lines more : List Line) (answers others : List Answer) (said told : List Said)
@@ -38,53 +38,53 @@ tasks_append (line ∷ lines) more =
       | Some step ↦ ap (λ (l : List Task). record { line = line.number; step = step } ∷ l) (tasks_append lines more)
     ]
 
-pub at_append : (place : Place) (k : ℕ) (lines more : List Line)
-    → tasks_at place k (lines ++ more) ≡ tasks_at place k lines ++ tasks_at place k more
-at_append place k lines more =
-    ap (filter (λ (task : Task). place (loader_of task.step) == k)) (tasks_append lines more)
-    ∙ filter-append (λ (task : Task). place (loader_of task.step) == k) (tasks_of lines) (tasks_of more)
+pub at_append : (position : Position) (k : ℕ) (lines more : List Line)
+    → tasks_at position k (lines ++ more) ≡ tasks_at position k lines ++ tasks_at position k more
+at_append position k lines more =
+    ap (filter (λ (task : Task). position (loader_of task.step) == k)) (tasks_append lines more)
+    ∙ filter-append (λ (task : Task). position (loader_of task.step) == k) (tasks_of lines) (tasks_of more)
 
 abbrev pub task_in : Line → Step → Task
 task_in line step = record { line = line.number; step = step }
 
-at_one : (place : Place) (k : ℕ) (line : Line) (step : Step) → step_of line.command ≡ Some step
-    → tasks_at place k (line ∷ []) ≡ cond (place (loader_of step) == k) (task_in line step ∷ []) []
-at_one place k line step asks =
-    ap (λ (o : Option Step). filter (λ (task : Task). place (loader_of task.step) == k) (task_of line o [])) asks
+at_one : (position : Position) (k : ℕ) (line : Line) (step : Step) → step_of line.command ≡ Some step
+    → tasks_at position k (line ∷ []) ≡ cond (position (loader_of step) == k) (task_in line step ∷ []) []
+at_one position k line step asks =
+    ap (λ (o : Option Step). filter (λ (task : Task). position (loader_of task.step) == k) (task_of line o [])) asks
 
--- The lines up to the next place have one task more, in one share.
-pub at_next : (place : Place) (k : ℕ) (lines : List Line) (at : ℕ) (line : Line) (step : Step)
+-- The lines up to the next position have one task more, in one share.
+pub at_next : (position : Position) (k : ℕ) (lines : List Line) (at : ℕ) (line : Line) (step : Step)
     → take (at + 1) lines ≡ take at lines ++ line ∷ []
     → step_of line.command ≡ Some step
-    → tasks_at place k (take (at + 1) lines) ≡ tasks_at place k (take at lines) ++ cond (place (loader_of step) == k)
+    → tasks_at position k (take (at + 1) lines) ≡ tasks_at position k (take at lines) ++ cond (position (loader_of step) == k)
     (task_in line step ∷ []) []
-at_next place k lines at line step more asks =
-    ap (tasks_at place k) more ∙ at_append place k (take at lines) (line ∷ [])
-    ∙ ap (λ (l : List Task). tasks_at place k (take at lines) ++ l) (at_one place k line step asks)
+at_next position k lines at line step more asks =
+    ap (tasks_at position k) more ∙ at_append position k (take at lines) (line ∷ [])
+    ∙ ap (λ (l : List Task). tasks_at position k (take at lines) ++ l) (at_one position k line step asks)
 
 -- That task, where it goes.
-at_there : (place : Place) (lines : List Line) (at : ℕ) (line : Line) (step : Step)
+at_there : (position : Position) (lines : List Line) (at : ℕ) (line : Line) (step : Step)
     → take (at + 1) lines ≡ take at lines ++ line ∷ []
     → step_of line.command ≡ Some step
-    → tasks_at place (place (loader_of step)) (take (at + 1) lines)
-    ≡ tasks_at place (place (loader_of step)) (take at lines) ++ task_in line step ∷ []
-at_there place lines at line step more asks =
-    at_next place (place (loader_of step)) lines at line step more asks
-    ∙ ap (λ (b : Bool). tasks_at place (place (loader_of step)) (take at lines) ++ cond b (task_in line step ∷ []) [])
-    (eq-eqb (place (loader_of step)) (place (loader_of step)) refl)
+    → tasks_at position (position (loader_of step)) (take (at + 1) lines)
+    ≡ tasks_at position (position (loader_of step)) (take at lines) ++ task_in line step ∷ []
+at_there position lines at line step more asks =
+    at_next position (position (loader_of step)) lines at line step more asks
+    ∙ ap (λ (b : Bool). tasks_at position (position (loader_of step)) (take at lines) ++ cond b (task_in line step ∷ []) [])
+    (eq-eqb (position (loader_of step)) (position (loader_of step)) refl)
 
-pub all_there : (place : Place) (lines : List Line) (at : ℕ) (line : Line) (step : Step)
+pub all_there : (position : Position) (lines : List Line) (at : ℕ) (line : Line) (step : Step)
     → take (at + 1) lines ≡ take at lines ++ line ∷ []
     → step_of line.command ≡ Some step
-    → tasks_at place (place (loader_of step)) lines
-    ≡ tasks_at place (place (loader_of step)) (take at lines) ++ task_in line step ∷ tasks_at place
-    (place (loader_of step)) (drop (at + 1) lines)
-all_there place lines at line step more asks =
-    let p = place (loader_of step) in
-    ap (tasks_at place p) (sym (take-append-drop (at + 1) lines))
-    ∙ at_append place p (take (at + 1) lines) (drop (at + 1) lines)
-    ∙ ap (λ (l : List Task). l ++ tasks_at place p (drop (at + 1) lines)) (at_there place lines at line step more asks)
-    ∙ append_assoc (tasks_at place p (take at lines)) (task_in line step ∷ []) (tasks_at place p (drop (at + 1) lines))
+    → tasks_at position (position (loader_of step)) lines
+    ≡ tasks_at position (position (loader_of step)) (take at lines) ++ task_in line step ∷ tasks_at position
+    (position (loader_of step)) (drop (at + 1) lines)
+all_there position lines at line step more asks =
+    let p = position (loader_of step) in
+    ap (tasks_at position p) (sym (take-append-drop (at + 1) lines))
+    ∙ at_append position p (take (at + 1) lines) (drop (at + 1) lines)
+    ∙ ap (λ (l : List Task). l ++ tasks_at position p (drop (at + 1) lines)) (at_there position lines at line step more asks)
+    ∙ append_assoc (tasks_at position p (take at lines)) (task_in line step ∷ []) (tasks_at position p (drop (at + 1) lines))
 
 -- One more of what is said in a share.
 pub said_more : (tasks : List Task) (replies : List Reply) (n : ℕ) (task : Task) (reply : Reply) → n < length tasks

@@ -8,4 +8,4 @@ pub returns-clause-groups : goal.returns-clause-groups
 returns-clause-groups c =
     let same : (group : ℕ) → slice_index_or c.resize.new.self.items group 0
     ≡ slice_index_or c.args.numbers.now.items group 0 = λ group. grind (arith, common_steps) in
-    same_groups c.args.numbers.now.items c.resize.new.self.items c.args.places.now same c.requires.groups
+    same_groups c.args.numbers.now.items c.resize.new.self.items c.args.positions.now same c.requires.groups

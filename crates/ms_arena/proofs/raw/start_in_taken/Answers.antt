@@ -12,7 +12,7 @@ take-requires-clause-may g c =
       fits = subst (λ (level : ℕ). c.args.n ≤ size_of level) (sym c.in-Some.ensures.level)
           ((greatest.holds (level_that_holds c.args.n) greatest.below).1 (omega arith));
       room = c.requires.may.room;
-      places = c.requires.may.places;
+      spare_tops = c.requires.may.spare_tops;
     }
 
 pub returns-clause-takes : goal.returns-clause-takes

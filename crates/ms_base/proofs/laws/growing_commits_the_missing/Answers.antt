@@ -3,5 +3,5 @@ use Rattle.ms_base.proofs.laws.growing_commits_the_missing.Goals as goal
 
 pub returns : goal.returns
 returns c =
-    λ pool place was chunk sound found grows placed within. growing_commits_the_missing pool place was chunk sound found
+    λ pool index was chunk sound found grows placed within. growing_commits_the_missing pool index was chunk sound found
     grows placed within

@@ -7,9 +7,9 @@ use Rattle.ms_blocks.proofs.few.take_from.Goals as goal
 use Rattle.ms_blocks.proofs.few.take_from.Goals.{After-partition_point-at, After-remove}
 
 -- Where the first that isn't too small stands.
-place : (g : Over) (c : After-partition_point-at g)
+position : (g : Over) (c : After-partition_point-at g)
     → TakesAt c.args.row.now.items c.partition_point-at.result c.args.words
-place g c =
+position g c =
     let parted = parted_by_words _ c.args.words (rw (← c.as_slice.ensures.value) at c.requires) in
     let point = IsPartitionPoint-from_clause (λ block. nat_lt block.words c.args.words) _ _
     c.partition_point-at.ensures.partitioned parted (λ a r q k. search rules) in
@@ -17,7 +17,7 @@ place g c =
 
 pub returns-then-at-len-clause-found : goal.returns-then-at-len-clause-found
 returns-then-at-len-clause-found g c =
-    (place g (goal.at.returns-then-at-len-clause-found g c).After-partition_point-at).none
+    (position g (goal.at.returns-then-at-len-clause-found g c).After-partition_point-at).none
     (omega (arith, ap length c.as_slice.ensures.value, c.as_slice.ensures.len, c.len.ensures, c.if-at-len.true))
 
 pub returns-then-at-len-clause-left : goal.returns-then-at-len-clause-left
@@ -37,10 +37,10 @@ within g c = omega (
 
 pub returns-clause-found : goal.returns-clause-found
 returns-clause-found g c =
-    (place g (goal.at.returns-clause-found g c).After-partition_point-at).found c.remove.result (within g c)
+    (position g (goal.at.returns-clause-found g c).After-partition_point-at).found c.remove.result (within g c)
     ∙ ap Some (sym c.remove.ensures.value)
 
 pub returns-clause-left : goal.returns-clause-left
 returns-clause-left g c =
     c.remove.ensures.items
-    ∙ sym ((place g (goal.at.returns-clause-left g c).After-partition_point-at).left (within g c))
+    ∙ sym ((position g (goal.at.returns-clause-left g c).After-partition_point-at).left (within g c))

@@ -23,7 +23,7 @@ taken_more row was grown at d ranked within first grows =
 
 pub loop-block-init : goal.loop-block-init
 loop-block-init g c = record {
-  store = (c.in_ok-trees.ensures.trees, omega (arith, c.in_ok-fill.ensures.places, ap length c.in_ok-trees.ensures.empty));
+  store = (c.in_ok-trees.ensures.trees, omega (arith, c.in_ok-fill.ensures.slots, ap length c.in_ok-trees.ensures.empty));
   blocks = c.in_ok-trees.ensures.empty;
   room = omega (arith, c.in_ok-fill.ensures.filled);
 }

@@ -1,7 +1,7 @@
 -- The part is carved in the half where it lies, and the other half stays.
 use Rattle.std.proofs.Common.{rules, arith, refl, ap, ◌∙◌}
 use Rattle.ms_buddy.specs.Leaves.{fits_in, leaf_of}
-use Rattle.ms_buddy.proofs.TreeHalvesLemmas.{lower_place, upper_place}
+use Rattle.ms_buddy.proofs.TreeHalvesLemmas.{lower_part, upper_part}
 use Rattle.ms_buddy.specs.Boxes.{shape_of}
 use Rattle.ms_buddy.proofs.SplitLemmas.{AtHalves}
 use Rattle.ms_buddy.proofs.boxes.BoxLemmas.{at_boxes, on_ok, refused_alike}
@@ -21,8 +21,8 @@ carve_in_half-carve-requires g t c κs within = (
     (
       search rules,
       (
-        lower_place _ _ c.requires.place (omega arith),
-        (c.requires.part, (lower_inside c.args.span _ _ _ c.requires.place c.requires.low c.requires.part c.requires.inside c.half_of.ensures.size c.if-span-middle.true, search rules)),
+        lower_part _ _ c.requires.of_root (omega arith),
+        (c.requires.part, (lower_inside c.args.span _ _ _ c.requires.of_root c.requires.low c.requires.part c.requires.inside c.half_of.ensures.size c.if-span-middle.true, search rules)),
       ),
     ),
   ),
@@ -36,7 +36,7 @@ carve_in_half-carve-requires-else-span-middle g t c κs within = (
     (
       search rules,
       (
-        upper_place _ _ _ c.requires.place (omega arith) (omega arith),
+        upper_part _ _ _ c.requires.of_root (omega arith) (omega arith),
         (c.requires.part, (upper_inside c.args.span _ _ _ c.requires.low c.requires.part.0 c.requires.inside c.half_of.ensures.size (omega arith), search rules)),
       ),
     ),

@@ -1,7 +1,7 @@
 -- The leaf is enlarged in the half where it is, and the other half stays, or the halves become one.
 use Rattle.std.proofs.Common.{◌≡◌, ◌+◌, rules, arith, ap, sym, ◌∙◌}
 use Rattle.ms_base.specs.Level.{size_of}
-use Rattle.ms_buddy.proofs.TreeHalvesLemmas.{lower_place, upper_place, size_of-halves}
+use Rattle.ms_buddy.proofs.TreeHalvesLemmas.{lower_part, upper_part, size_of-halves}
 use Rattle.ms_buddy.proofs.SplitLemmas.{AtHalves, lower_lent, upper_lent, parent_acts, lower_changed, upper_changed}
 use Rattle.ms_buddy.specs.Boxes.{shape_of}
 use Rattle.ms_buddy.proofs.boxes.BoxLemmas.{ok_some, refused_too}
@@ -11,12 +11,12 @@ use Rattle.ms_buddy.proofs.node.+enlarging.Goals as goal
 pub enlarge_in_half-enlarge-requires : goal.enlarge_in_half-enlarge-requires
 enlarge_in_half-enlarge-requires g t c κs within =
     let halves : AtHalves c.args.level c.args.start c.half_of.result (shape_of c.args.lower.now) (shape_of c.args.upper.now) = record { low_tree = c.requires.trees.0; high_tree = c.requires.trees.1; size = c.half_of.ensures.size } in
-    (omega arith, (search rules, (search rules, (lower_place _ _ c.requires.place c.requires.low, (lower_lent _ _ _ _ _ _ halves c.if-span-middle.true c.requires.lent, search rules)))))
+    (omega arith, (search rules, (search rules, (lower_part _ _ c.requires.of_root c.requires.low, (lower_lent _ _ _ _ _ _ halves c.if-span-middle.true c.requires.lent, search rules)))))
 
 pub enlarge_in_half-enlarge-requires-else-span-middle : goal.enlarge_in_half-enlarge-requires-else-span-middle
 enlarge_in_half-enlarge-requires-else-span-middle g t c κs within =
     let halves : AtHalves c.args.level c.args.start c.half_of.result (shape_of c.args.lower.now) (shape_of c.args.upper.now) = record { low_tree = c.requires.trees.0; high_tree = c.requires.trees.1; size = c.half_of.ensures.size } in
-    (omega arith, (search rules, (search rules, (upper_place _ _ _ c.requires.place c.requires.low (omega (arith, halves.size)), (upper_lent _ _ _ _ _ _ halves (omega arith) c.requires.lent, search rules)))))
+    (omega arith, (search rules, (search rules, (upper_part _ _ _ c.requires.of_root c.requires.low (omega (arith, halves.size)), (upper_lent _ _ _ _ _ _ halves (omega arith) c.requires.lent, search rules)))))
 
 pub enlarge_in_half-returns-then-number-level-clause-fits : goal.enlarge_in_half-returns-then-number-level-clause-fits
 enlarge_in_half-returns-then-number-level-clause-fits g t c =
@@ -36,7 +36,7 @@ enlarge_in_half-returns-in-Ok-enlarge-clause-lent g t c =
 pub enlarge_in_half-returns-in-Err-clause-room : goal.enlarge_in_half-returns-in-Err-clause-room
 enlarge_in_half-returns-in-Err-clause-room g t c =
     let halves : AtHalves c.args.level c.args.start c.half_of.result (shape_of c.args.lower.now) (shape_of c.args.upper.now) = record { low_tree = c.requires.trees.0; high_tree = c.requires.trees.1; size = c.half_of.ensures.size } in
-    refused_too _ _ (lower_can c.args.span _ _ _ _ _ halves c.requires.place c.requires.lent (λ child. c.if-number-level.false (c.number.ensures.same ∙ child)) (omega arith) c.if-span-middle.true) c.in-Err.ensures.room
+    refused_too _ _ (lower_can c.args.span _ _ _ _ _ halves c.requires.of_root c.requires.lent (λ child. c.if-number-level.false (c.number.ensures.same ∙ child)) (omega arith) c.if-span-middle.true) c.in-Err.ensures.room
 
 pub enlarge_in_half-returns-in-Err-enlarge-clause-room : goal.enlarge_in_half-returns-in-Err-enlarge-clause-room
 enlarge_in_half-returns-in-Err-enlarge-clause-room g t c =

@@ -11,7 +11,7 @@ use Rattle.ms_buddy.proofs.node.merged_leader.Goals as goal
 pub returns-then-span-start-clause-room : goal.returns-then-span-start-clause-room
 returns-then-span-start-clause-room g c =
     let halves : AtHalves c.args.level c.args.start (size_of (c.args.level + 1)) (shape_of c.args.lower.now) (shape_of c.args.upper.now) = record { low_tree = c.requires.trees.0; high_tree = c.requires.trees.1; size = refl } in
-    refused _ (follower_cannot c.args.span _ _ _ _ _ _ halves c.requires.place c.requires.low c.requires.lent c.requires.child c.if-span-start.true)
+    refused _ (follower_cannot c.args.span _ _ _ _ _ _ halves c.requires.of_root c.requires.low c.requires.lent c.requires.child c.if-span-start.true)
 
 pub returns-in-Split-lower-clause-room : goal.returns-in-Split-lower-clause-room
 returns-in-Split-lower-clause-room g c =

@@ -8,7 +8,7 @@ use Rattle.ms_buddy.proofs.node_walk.next_free.Goals as goal
 pub part-requires : goal.part-requires
 part-requires g c =
     let turn = at_turn _ _ _ _ c.in-Some.ensures.items c.in-Some-top.is c.loop-top.invariant.0 in
-    turn.top.place.level_fits
+    turn.top.of_root.level_fits
 
 pub returns-in-Free-clause-stack : goal.returns-in-Free-clause-stack
 returns-in-Free-clause-stack g c =
@@ -23,7 +23,7 @@ returns-in-Free-clause-next g c =
 pub overflow_add-level : goal.overflow_add-level
 overflow_add-level g c =
     let turn = at_turn _ _ _ _ c.in-Some.ensures.items c.in-Some-top.is c.loop-top.invariant.0 in
-    omega (arith, turn.top.place.level_fits)
+    omega (arith, turn.top.of_root.level_fits)
 
 pub half_of-requires : goal.half_of-requires
 half_of-requires g c =
@@ -34,7 +34,7 @@ half_of-requires g c =
 pub overflow_add-visit : goal.overflow_add-visit
 overflow_add-visit g c =
     let turn = at_turn _ _ _ _ c.in-Some.ensures.items c.in-Some-top.is c.loop-top.invariant.0 in
-    omega (arith, turn.top.place.in_root)
+    omega (arith, turn.top.of_root.in_root)
 
 pub push-requires : goal.push-requires
 push-requires g c =

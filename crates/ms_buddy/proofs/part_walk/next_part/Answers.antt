@@ -15,32 +15,32 @@ turn : (g : Over) (c : In-Some g)
 turn g c = next_of c.loop-level.levels.items c.pop.new.self.items c.in-Some.level c.loop-level.at
     (free_of c.args.table.now) c.in-Some.ensures.items c.loop-level.invariant.0
 
-pub look-requires-clause-place : goal.look-requires-clause-place
-look-requires-clause-place g c = (turn g (goal.at.look-requires-clause-place g c).In-Some).place
+pub look-requires-clause-of_root : goal.look-requires-clause-of_root
+look-requires-clause-of_root g c = (turn g (goal.at.look-requires-clause-of_root g c).In-Some).of_root
 
 pub look-requires-clause-within : goal.look-requires-clause-within
 look-requires-clause-within g c = (turn g (goal.at.look-requires-clause-within g c).In-Some).within
 
 pub words_of-requires : goal.words_of-requires
-words_of-requires g c = (turn g (goal.at.words_of-requires g c).In-Some).place.level_fits
+words_of-requires g c = (turn g (goal.at.words_of-requires g c).In-Some).of_root.level_fits
 
 pub overflow_add-at : goal.overflow_add-at
 overflow_add-at g c =
-    omega (arith, (turn g (goal.at.overflow_add-at g c).In-Some).place.in_root, c.words_of.ensures.size)
+    omega (arith, (turn g (goal.at.overflow_add-at g c).In-Some).of_root.in_root, c.words_of.ensures.size)
 
 pub part-requires : goal.part-requires
-part-requires g c = (turn g (goal.at.part-requires g c).In-Some).place.level_fits
+part-requires g c = (turn g (goal.at.part-requires g c).In-Some).of_root.level_fits
 
 pub returns-in-Free-clause-row : goal.returns-in-Free-clause-row
 returns-in-Free-clause-row g c =
     rw c.words_of.ensures.size (turn g (goal.at.returns-in-Free-clause-row g c).In-Some).rest
 
 pub words_of-requires-in-Lent : goal.words_of-requires-in-Lent
-words_of-requires-in-Lent g c = (turn g (goal.at.words_of-requires-in-Lent g c).In-Some).place.level_fits
+words_of-requires-in-Lent g c = (turn g (goal.at.words_of-requires-in-Lent g c).In-Some).of_root.level_fits
 
 pub overflow_add-at-in-Lent : goal.overflow_add-at-in-Lent
 overflow_add-at-in-Lent g c =
-    omega (arith, (turn g (goal.at.overflow_add-at-in-Lent g c).In-Some).place.in_root, c.words_of-in-Lent.ensures.size)
+    omega (arith, (turn g (goal.at.overflow_add-at-in-Lent g c).In-Some).of_root.in_root, c.words_of-in-Lent.ensures.size)
 
 pub loop-level-smaller-in-Lent : goal.loop-level-smaller-in-Lent
 loop-level-smaller-in-Lent g c =

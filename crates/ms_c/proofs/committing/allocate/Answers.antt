@@ -27,11 +27,11 @@ pub returns-in-Err-clause-step : goal.returns-in-Err-clause-step
 returns-in-Err-clause-step c =
     let step = alloc_in c.args.space c.args.loader c.args.block c.args.words in
     let now = c.allocate_with_run-answer.new.self in
-    subst (λ (h : Held). Steps h step c.tell.result c.put.new.self.slot.held) (sym c.in-Some.ensures.some) (record {
+    subst (λ (h : Held). Steps h step c.answer_of.result c.put.new.self.slot.held) (sym c.in-Some.ensures.some) (record {
       reply = Refused c.in-Err.refusal;
       now = now;
       after_is = c.put.ensures;
-      answer_is = c.tell.ensures;
+      answer_is = c.answer_of.ensures;
       stepped = subst (λ (m : Machine). Transition m step (Refused c.in-Err.refusal) now) c.deref_mut.ensures.value
           c.in-Err.ensures.refused;
       good = c.in-Err.ensures.good;

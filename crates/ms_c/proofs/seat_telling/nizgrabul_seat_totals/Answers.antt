@@ -12,5 +12,5 @@ returns-in-Some-totals-clause-totals c = λ _. record {
   are =
       subst (λ (member : MemberState). AreTheirSums member.arenas member c.in-Some-totals.totals) c.deref.ensures
       c.in-Some-totals.ensures.sums;
-  told = c.tell_loader.ensures;
+  told = c.loader_sums.ensures;
 }

@@ -21,10 +21,10 @@ told_so old now loader block (Err refusal) answer after is freed refused same do
 
 pub returns-in-Some : goal.returns-in-Some
 returns-in-Some c =
-    subst (λ (h : Held). FreesBlock h c.args.loader c.args.start c.args.words c.tell_done.result c.put.new.self.slot.held)
+    subst (λ (h : Held). FreesBlock h c.args.loader c.args.start c.args.words c.done_answer.result c.put.new.self.slot.held)
     (sym c.in-Some.ensures.some) (subst (λ (m : Machine).
-    FreesBlock (Some m) c.args.loader c.args.start c.args.words c.tell_done.result c.put.new.self.slot.held)
+    FreesBlock (Some m) c.args.loader c.args.start c.args.words c.done_answer.result c.put.new.self.slot.held)
     c.deref_mut.ensures.value (told_so _ c.free_block-answer.new.self c.args.loader _ c.free_block-answer.result
-    c.tell_done.result c.put.new.self.slot.held c.put.ensures c.free_block-answer.ensures.freed
-    c.free_block-answer.ensures.refused c.free_block-answer.ensures.unchanged c.tell_done.ensures.done
-    c.tell_done.ensures.refused))
+    c.done_answer.result c.put.new.self.slot.held c.put.ensures c.free_block-answer.ensures.freed
+    c.free_block-answer.ensures.refused c.free_block-answer.ensures.unchanged c.done_answer.ensures.done
+    c.done_answer.ensures.refused))

@@ -4,16 +4,16 @@ use Rattle.ms_c.specs.Sums.{bit_at}
 use Rattle.ms_c.proofs.BitLemmas.{one_more}
 use Rattle.ms_c.proofs.telling.write_bits.Goals as goal
 
--- all places are written
+-- all elements are written
 pub returns : goal.returns
 returns c =
-    fill_by_all (bit_at c.args.system.now c.args.first) c.loop-place.out (length c.args.out.now) false
-    c.loop-place.invariant.0 (λ k below. c.loop-place.invariant.1 k (omega (arith, c.loop-place-test.false, c.loop-place.auto, below)))
+    fill_by_all (bit_at c.args.system.now c.args.first) c.loop-index.out (length c.args.out.now) false
+    c.loop-index.invariant.0 (λ k below. c.loop-index.invariant.1 k (omega (arith, c.loop-index-test.false, c.loop-index.auto, below)))
 
--- one place more is written
-pub loop-place-preserved : goal.loop-place-preserved
-loop-place-preserved c =
-    one_more (bit_at c.args.system.now c.args.first) c.loop-place.out c.loop-place.place (length c.args.out.now)
-    c.is_committed.result c.loop-place.invariant.0 (omega (arith, c.loop-place-test.true))
-    (c.is_committed.ensures ∙ ap (λ (n : ℕ). bit_at c.args.system.now n c.loop-place.place) c.from.ensures)
-    c.loop-place.invariant.1
+-- one element more is written
+pub loop-index-preserved : goal.loop-index-preserved
+loop-index-preserved c =
+    one_more (bit_at c.args.system.now c.args.first) c.loop-index.out c.loop-index.index (length c.args.out.now)
+    c.is_committed.result c.loop-index.invariant.0 (omega (arith, c.loop-index-test.true))
+    (c.is_committed.ensures ∙ ap (λ (n : ℕ). bit_at c.args.system.now n c.loop-index.index) c.from.ensures)
+    c.loop-index.invariant.1

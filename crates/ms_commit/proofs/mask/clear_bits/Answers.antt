@@ -42,9 +42,9 @@ loop-index-preserved c =
       clear = changed_more (λ a b. a && not b)
           (λ k. nat_le c.args.first k && nat_lt k c.args.end) c.args.words.now c.loop-index.words c.loop-index.index _
           (λ b. elim b as (λ v. (v && not false) ≡ v) [ true ↦ refl | false ↦ refl ]) (omega arith)
-          (λ place within. is_one-and word (2 ^ 64 - 1 - c.bits_between-bits.result) place
-          ∙ ap (λ b. is_one word place && b) (is_one-not c.bits_between-bits.result place (omega arith) within
-          ∙ ap not (c.bits_between-bits.ensures place within)))
+          (λ position within. is_one-and word (2 ^ 64 - 1 - c.bits_between-bits.result) position
+          ∙ ap (λ b. is_one word position && b) (is_one-not c.bits_between-bits.result position (omega arith) within
+          ∙ ap not (c.bits_between-bits.ensures position within)))
           c.loop-index.invariant.clear;
       left = λ row low.
           get_or-set_other c.loop-index.words c.loop-index.index row _ 0 (λ e. absurd (omega (arith, low, e)))

@@ -5,7 +5,7 @@ use Rattle.ms_commit.proofs.mask.lowest_clear.Goals as goal
 
 pub returns-then-word-clause-lowest : goal.returns-then-word-clause-lowest
 returns-then-word-clause-lowest c =
-    subst (λ place. IsLowestClear c.args.words.now (64 * c.loop-index.index + place)) (sym c.trailing_ones.ensures)
+    subst (λ position. IsLowestClear c.args.words.now (64 * c.loop-index.index + position)) (sym c.trailing_ones.ensures)
     (lowest_in_word c.args.words.now c.loop-index.index (omega arith)
     (omega (arith, c.if-word.true, c.type_inv.words c.loop-index.index)) c.loop-index.invariant)
 

@@ -4,7 +4,7 @@ use Rattle.std.proofs.lemmas.Nat.{and_le_r}
 use Rattle.ms_commit.proofs.LowestLemmas.{IsLowestIn, lowest_here, none_more}
 use Rattle.ms_commit.proofs.mask.lowest_set.Goals as goal
 
--- The lowest place of the word that the loop has reached is the answer.
+-- The lowest position of the word that the loop has reached is the answer.
 here : (c : goal.Then-bits-ne0) → IsLowestIn c.args.words.now c.args.first c.args.end
     (64 * c.loop-index.index + trailing_zeros w64
     (bit_and (get_or c.args.words.now c.loop-index.index 0) c.bits_between.result))

@@ -10,6 +10,6 @@ loop-index-preserved c =
     changed_more (λ a b. a || b)
     (λ k. nat_le c.args.first k && nat_lt k c.args.end) c.args.words.now c.loop-index.words c.loop-index.index _
     (λ b. elim b as (λ v. (v || false) ≡ v) [ true ↦ refl | false ↦ refl ]) (omega arith)
-    (λ place within. is_one-or word c.bits_between.result place
-    ∙ ap (λ b. is_one word place || b) (c.bits_between.ensures place within))
+    (λ position within. is_one-or word c.bits_between.result position
+    ∙ ap (λ b. is_one word position || b) (c.bits_between.ensures position within))
     c.loop-index.invariant

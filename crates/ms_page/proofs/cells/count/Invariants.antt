@@ -4,4 +4,4 @@ use Rattle.ms_page.proofs.cells.count.Given as goal
 
 -- the cells of the first roots
 abbrev pub invariant-loop-root : goal.invariant-loop-root
-invariant-loop-root l = l.cells ≡ cells_of l.place (take l.root-index l.roots)
+invariant-loop-root l = l.cells ≡ cells_of l.cell (take l.root-index l.roots)

@@ -8,27 +8,27 @@ use Rattle.ms_pool.proofs.counts.LentCountLemmas.{goes_next, least_next, none_go
 use Rattle.ms_pool.proofs.ledger.LoanAtLemmas.{contains_at}
 use Rattle.ms_pool.proofs.lent.discount_chunks.Goals as goal
 
-pub loop-place-init : goal.loop-place-init
-loop-place-init c = none_gone c.args.counted.now
+pub loop-index-init : goal.loop-index-init
+loop-index-init c = none_gone c.args.counted.now
 
 pub discount_chunk-requires : goal.discount_chunk-requires
 discount_chunk-requires c =
-    least_next c.args.counted.now c.loop-place.counted c.args.account.now.chunks c.loop-place.place c.chunk.result
+    least_next c.args.counted.now c.loop-index.counted c.args.account.now.chunks c.loop-index.index c.chunk.result
     c.chunk.ensures
     (omega (
       arith,
       (All-contains (λ (one : Chunk). IsPart one.start one.level) c.args.account.now.chunks c.chunk.result
-          c.held-place-end.ensures.chunks.parts
-          (contains_at c.args.account.now.chunks c.loop-place.place c.chunk.result c.chunk.ensures)).0,
-    )) c.requires c.loop-place.invariant
+          c.held-index-end.ensures.chunks.parts
+          (contains_at c.args.account.now.chunks c.loop-index.index c.chunk.result c.chunk.ensures)).0,
+    )) c.requires c.loop-index.invariant
 
-pub loop-place-preserved : goal.loop-place-preserved
-loop-place-preserved c =
-    goes_next c.args.counted.now c.loop-place.counted c.discount_chunk.new.counted c.args.account.now.chunks
-    c.loop-place.place c.chunk.result c.chunk.ensures c.loop-place.invariant c.discount_chunk.ensures
+pub loop-index-preserved : goal.loop-index-preserved
+loop-index-preserved c =
+    goes_next c.args.counted.now c.loop-index.counted c.discount_chunk.new.counted c.args.account.now.chunks
+    c.loop-index.index c.chunk.result c.chunk.ensures c.loop-index.invariant c.discount_chunk.ensures
 
 pub returns : goal.returns
 returns c =
-    subst (λ (l : List Chunk). Moves c.args.counted.now l [] c.loop-place.counted)
-    (take_all c.loop-place.place c.args.account.now.chunks
-    (omega (arith, c.held-place-end.ensures.count, c.loop-place-test.false))) c.loop-place.invariant
+    subst (λ (l : List Chunk). Moves c.args.counted.now l [] c.loop-index.counted)
+    (take_all c.loop-index.index c.args.account.now.chunks
+    (omega (arith, c.held-index-end.ensures.count, c.loop-index-test.false))) c.loop-index.invariant

@@ -3,5 +3,5 @@ use Rattle.ms_pool.specs.Counting.{Moves}
 use Rattle.ms_pool.proofs.lent.discount_chunks.Given as goal
 
 -- The first chunks are gone.
-abbrev pub invariant-loop-place : goal.invariant-loop-place
-invariant-loop-place l = Moves l.fn.counted (take l.place l.account.chunks) [] l.counted
+abbrev pub invariant-loop-index : goal.invariant-loop-index
+invariant-loop-index l = Moves l.fn.counted (take l.index l.account.chunks) [] l.counted

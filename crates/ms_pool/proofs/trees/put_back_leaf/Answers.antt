@@ -5,7 +5,7 @@ use Rattle.std.proofs.lemmas.List.Elements.{recursion_from_All}
 use Rattle.ms_base.specs.Level.{root_words}
 use Rattle.ms_buddy.specs.Leaves.{LentLeaf, AreLeaves, covers, free_of, is_lent, without_leaf}
 use Rattle.ms_pool.specs.Keeping.{loans_from}
-use Rattle.ms_pool.proofs.returns.ReleasedTreeLemmas.{leaf_there, place_in, released_loans}
+use Rattle.ms_pool.proofs.returns.ReleasedTreeLemmas.{leaf_there, span_in, released_loans}
 use Rattle.ms_pool.proofs.trees.put_back_leaf.Goals as goal
 
 pub index_mut-tree-requires : goal.index_mut-tree-requires
@@ -22,7 +22,7 @@ release-requires c =
     let trees = c.args.trees.now.items in
     let chunk = c.args.chunk.now in
     let there = leaf_there trees chunk (recursion_from_All AreLeaves trees c.requires.leaves) c.requires.lent in
-    ap (λ (tree : List LentLeaf). is_lent tree (place_in chunk))
+    ap (λ (tree : List LentLeaf). is_lent tree (span_in chunk))
     (get_or_read trees (chunk.start / root_words) c.index_mut-tree.result.now there.0 c.index_mut-tree.ensures.value
     []) ∙ there.1
 
@@ -34,9 +34,9 @@ returns-clause-loans c =
     let there = leaf_there trees chunk (recursion_from_All AreLeaves trees c.requires.leaves) c.requires.lent in
     ap (λ (tree : List LentLeaf). loans_from 0 (set trees root tree))
     (c.release.ensures.lent
-    ∙ ap (without_leaf (place_in chunk))
+    ∙ ap (without_leaf (span_in chunk))
     (get_or_read trees root c.index_mut-tree.result.now there.0 c.index_mut-tree.ensures.value []))
-    ∙ released_loans trees root chunk (place_in chunk) there.0 (recursion_from_All AreLeaves trees c.requires.leaves)
+    ∙ released_loans trees root chunk (span_in chunk) there.0 (recursion_from_All AreLeaves trees c.requires.leaves)
     (omega arith) refl (omega arith)
 
 pub returns-clause-there : goal.returns-clause-there

@@ -1,4 +1,4 @@
--- What is left of the piece is what stands up to the other place.
+-- What is left of the piece is what stands up to the other index.
 use Rattle.std.proofs.Common.{◌+◌, ◌-◌, arith, drop}
 use Rattle.std.proofs.lemmas.List.{take-take}
 use Rattle.ms_report.proofs.done_line.push_piece.Goals as goal

@@ -1,4 +1,4 @@
--- The first number's seven places are two spaces and a level's column.
+-- The first number's width of seven is two spaces and a level's column.
 use Rattle.std.proofs.Common.{arith}
 use Rattle.std.specs.Prelude.{string_bytes}
 use Rattle.ms_report.proofs.ColumnLemmas.{level_added}

@@ -14,8 +14,8 @@ loop-number-preserved c =
     let held = c.args.space.now.held in
     let free = c.args.space.now.free in
     let number : ℕ = c.loop-number.number in
-    let line : ℕ → ℕ → List ℕ = λ level place.
-    table_line level_table (level_texts level (get_or held place 0) (get_or free place 0)) in
+    let line : ℕ → ℕ → List ℕ = λ level index.
+    table_line level_table (level_texts level (get_or held index 0) (get_or free index 0)) in
     let bytes = string_bytes c.loop-number.text in
     c.loop-number.invariant
     ∙ ap (λ (rest : List ℕ). bytes ++ rest)
@@ -23,8 +23,8 @@ loop-number-preserved c =
     (omega (arith, c.loop-number-test.true, c.type_inv.space)))
     ∙ longer bytes (string_bytes c.push_level.new.text) (line number number)
     (level_lines (number + 1) (drop (number + 1) held) (drop (number + 1) free))
-    (c.in_ok-push_level.ensures ∙ ap (λ (n : ℕ). bytes ++ line n c.from-place.result) c.new.ensures
-    ∙ ap (λ (place : ℕ). bytes ++ line number place) c.from-place.ensures)
+    (c.in_ok-push_level.ensures ∙ ap (λ (n : ℕ). bytes ++ line n c.from-index.result) c.new.ensures
+    ∙ ap (λ (index : ℕ). bytes ++ line number index) c.from-index.ensures)
 
 pub returns : goal.returns
 returns c =

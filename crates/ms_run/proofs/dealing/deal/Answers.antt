@@ -1,11 +1,11 @@
 use Rattle.std.proofs.Common.{◌≡◌, ◌≤◌, ◌∙◌, sym, subst, vec_len, ℕ}
-use Rattle.ms_run.specs.Turn.{place_in}
-use Rattle.ms_run.specs.Shares.{AreWithin, place_for}
+use Rattle.ms_run.specs.Turn.{position_in}
+use Rattle.ms_run.specs.Shares.{AreWithin, position_for}
 use Rattle.ms_run.proofs.sharing.StandByLemmas.{within_still}
 use Rattle.ms_run.proofs.sharing.SeatsLemmas.{seats_are, seats_count}
 use Rattle.ms_run.proofs.sharing.DealLemmas.{are_dealt}
 use Rattle.ms_run.proofs.sharing.ByTurnLemmas.{worked_by_turn}
-use Rattle.ms_run.proofs.TurnLemmas.{place_within}
+use Rattle.ms_run.proofs.TurnLemmas.{position_within}
 use Rattle.ms_run.proofs.dealing.deal.Goals as goal
 
 pub deal_metered-requires-clause-seats : goal.deal_metered-requires-clause-seats
@@ -20,13 +20,13 @@ returns-clause-dealt c =
     let counted : vec_len c.in_ok-shared.seats ≡ c.shares-count.result =
     c.in_ok-shared.seats.ok.0
     ∙ seats_count c.in_ok-shared.shared c.shares-count.result c.in_ok-shared.seats.items c.args.pool few c.in_ok-shared.ensures.seats in
-    are_dealt (place_for (place_in c.args.turn.now) c.args.lines.now) c.in_ok-shared.shared
+    are_dealt (position_for (position_in c.args.turn.now) c.args.lines.now) c.in_ok-shared.shared
     (vec_len c.in_ok-shared.seats) c.args.lines.now c.args.loaders
     c.in_ok-shares.shares.items c.in_ok-shares.ensures.dealt
-    (subst (AreWithin (place_for (place_in c.args.turn.now) c.args.lines.now))
+    (subst (AreWithin (position_for (position_in c.args.turn.now) c.args.lines.now))
     (sym (counted ∙ c.shares-count.ensures.count))
-    (within_still (place_in c.args.turn.now) c.args.lines.now _ c.shares-count.ensures.turn.some
-    (place_within c.args.turn.now c.shares-count.ensures.turn.some)))
+    (within_still (position_in c.args.turn.now) c.args.lines.now _ c.shares-count.ensures.turn.some
+    (position_within c.args.turn.now c.shares-count.ensures.turn.some)))
     (c.in_ok-shared.ensures.lock ∙ sym counted)
 
 pub returns-clause-workers : goal.returns-clause-workers

@@ -2,8 +2,8 @@ use Rattle.std.proofs.Common.{◌+◌, ◌∙◌, sym, ap, arith, vec_len, lengt
 use Rattle.std.proofs.lemmas.Result.{IfOk-weaker}
 use Rattle.std.proofs.lemmas.List.{nil_from_length}
 use Rattle.ms_shared.specs.SeatView.{SeatState}
-use Rattle.ms_run.specs.Turn.{place_in}
-use Rattle.ms_run.specs.Shares.{place_for}
+use Rattle.ms_run.specs.Turn.{position_in}
+use Rattle.ms_run.specs.Shares.{position_for}
 use Rattle.ms_run.proofs.sharing.ByTurnLemmas.{workers_none, workers_pushed, workers_put}
 use Rattle.ms_run.proofs.sharing.StandByLemmas.{handed_at, same_tasks}
 use Rattle.ms_run.proofs.sharing.DealLemmas.{dealing_starts, dealing_on, dealing_ends, next_free}
@@ -14,14 +14,14 @@ use Rattle.ms_run.proofs.dealing.deal_to.Goals as goal
 
 pub loop-seat-init : goal.loop-seat-init
 loop-seat-init c = (
-  dealing_starts (place_for (place_in c.args.turn.now) c.args.lines.now) c.args.shared.now
+  dealing_starts (position_for (position_in c.args.turn.now) c.args.lines.now) c.args.shared.now
       (vec_len c.args.seats) c.args.lines.now c.args.loaders
       c.args.seats.items c.remove-seat.result _ _
       c.requires.seats c.remove-seat.ensures.value
       (c.into_iter-seat-iterator.ensures.into_iter_gives.0 ∙ c.remove-seat.ensures.items)
       (sym c.args.seats.ok.0) c.in_ok-shares.ensures.items,
   omega (arith, c.len.ensures, c.in_ok-shares.ensures.capacity),
-  left_starts (place_in c.args.turn.now) c.args.lines.now _ c.in_ok-lists.lists.items c.in_ok-lists.ensures.listed,
+  left_starts (position_in c.args.turn.now) c.args.lines.now _ c.in_ok-lists.lists.items c.in_ok-lists.ensures.listed,
   c.in_ok-lists.ensures.count ∙ c.len-2.ensures,
   shared_starts c.args.loaders _ _ _ _ c.in_ok-shares.ensures.items c.remove-first_meter.ensures.items
       (omega (
@@ -57,7 +57,7 @@ push_reserved-requires c =
 
 pub loop-seat-preserved : goal.loop-seat-preserved
 loop-seat-preserved c = (
-  dealing_on (place_for (place_in c.args.turn.now) c.args.lines.now) c.args.shared.now
+  dealing_on (position_for (position_in c.args.turn.now) c.args.lines.now) c.args.shared.now
       (vec_len c.args.seats) c.args.lines.now c.args.loaders
       c.loop-seat.first.seat c.share_beside.new.first.seat
       c.loop-seat.first.loaders c.share_beside.new.first.loaders c.in_ok-share.share.seat
@@ -66,7 +66,7 @@ loop-seat-preserved c = (
       (rw c.in-Some.ensures.steps.0 at c.loop-seat.invariant.0)
       (omega (arith, c.len-at.ensures, c.loop-seat.shares.ok.0))
       c.in_ok-share.ensures.crews c.in_ok-share.ensures.first c.in_ok-share.ensures.seat
-      (handed_at (place_in c.args.turn.now) c.args.lines.now (c.len-at.result + 1) c.take_list-tasks.result.items
+      (handed_at (position_in c.args.turn.now) c.args.lines.now (c.len-at.result + 1) c.take_list-tasks.result.items
       c.loop-seat.first.loaders c.share_beside.new.first.loaders c.in_ok-share.share.loaders (omega arith)
       (c.loop-seat.invariant.2 (c.len-at.result + 1) c.take_list-tasks.result
       (inr (omega (arith, c.len-at.ensures))) c.take_list-tasks.ensures.taken)
@@ -77,12 +77,12 @@ loop-seat-preserved c = (
         tasks = c.in_ok-share.ensures.made.tasks_are
             ∙ c.loop-seat.invariant.2 (c.len-at.result + 1) c.take_list-tasks.result
             (inr (omega (arith, c.len-at.ensures))) c.take_list-tasks.ensures.taken
-            ∙ sym (same_tasks (place_in c.args.turn.now) c.args.lines.now (c.len-at.result + 1));
+            ∙ sym (same_tasks (position_in c.args.turn.now) c.args.lines.now (c.len-at.result + 1));
         room = c.in_ok-share.ensures.made.room;
         none = c.in_ok-share.ensures.made.none;
       }) c.push_reserved.ensures.items,
   omega (arith, c.push_reserved.ensures.capacity, c.loop-seat.invariant.1),
-  left_more (place_in c.args.turn.now) c.args.lines.now (vec_len c.loop-seat.shares) _
+  left_more (position_in c.args.turn.now) c.args.lines.now (vec_len c.loop-seat.shares) _
       (c.len-at.result + 1) c.loop-seat.lists.items c.take_list-tasks.new.lists.items c.loop-seat.invariant.2
       c.push_reserved.ensures.len (omega (arith, c.len-at.ensures)) c.take_list-tasks.ensures.others,
   c.take_list-tasks.ensures.count ∙ c.loop-seat.invariant.3,
@@ -105,7 +105,7 @@ returns-clause-workers c = IfOk-weaker c.put_first.result _ _ (λ all is.
 
 pub returns-clause-dealt : goal.returns-clause-dealt
 returns-clause-dealt c = IfOk-weaker c.put_first.result _ _ (λ all is.
-    dealing_ends (place_for (place_in c.args.turn.now) c.args.lines.now) c.args.shared.now
+    dealing_ends (position_for (position_in c.args.turn.now) c.args.lines.now) c.args.shared.now
     (vec_len c.args.seats) c.args.lines.now c.args.loaders
     c.loop-seat.first.seat c.loop-seat.first.loaders
     c.loop-seat.seat-iterator.rest.items c.loop-seat.shares.items _ c.in_ok-share-2.share
@@ -117,7 +117,7 @@ returns-clause-dealt c = IfOk-weaker c.put_first.result _ _ (λ all is.
       loaders_are = c.in_ok-share-2.ensures.loaders;
       tasks = c.in_ok-share-2.ensures.made.tasks_are
           ∙ c.loop-seat.invariant.2 0 c.take_list-tasks-2.result (inl refl) c.take_list-tasks-2.ensures.taken
-          ∙ sym (same_tasks (place_in c.args.turn.now) c.args.lines.now 0);
+          ∙ sym (same_tasks (position_in c.args.turn.now) c.args.lines.now 0);
       room = c.in_ok-share-2.ensures.made.room;
       none = c.in_ok-share-2.ensures.made.none;
     }) is)

@@ -25,9 +25,9 @@ from_parts-requires c =
 
 pub returns-clause-gathered : goal.returns-clause-gathered
 returns-clause-gathered c = record {
-  gathered = λ place apart.
-      subst (IsGathered place c.args.shares.items) (ap (λ (m : Machine). m.loaders) (sym c.from_parts.ensures.machine))
-      (all_gathered place c.args.shares.items c.in_ok-seats.loaders c.in_ok-seats.ensures.loaders apart);
+  gathered = λ position apart.
+      subst (IsGathered position c.args.shares.items) (ap (λ (m : Machine). m.loaders) (sym c.from_parts.ensures.machine))
+      (all_gathered position c.args.shares.items c.in_ok-seats.loaders c.in_ok-seats.ensures.loaders apart);
   good = c.from_parts.ensures.good;
   limits = ap (λ (m : Machine). m.limits) c.from_parts.ensures.machine ∙ c.in_ok-pool.ensures.limits;
   history = record {
@@ -42,8 +42,8 @@ returns-clause-gathered c = record {
     };
     history = subst (λ (seats : List SeatState). IsHistory c.args.shared.first seats c.in_ok-pool.pool)
         c.in_ok-seats.ensures.seats c.in_ok-pool.ensures.history;
-    here = λ place apart at share name found goes.
-        sym (views_gathered place c.args.shares.items c.in_ok-seats.loaders c.in_ok-seats.ensures.loaders apart at share
+    here = λ position apart at share name found goes.
+        sym (views_gathered position c.args.shares.items c.in_ok-seats.loaders c.in_ok-seats.ensures.loaders apart at share
         name found goes);
   };
   used = ap used_words_of c.from_parts.ensures.machine ∙ used_machine c.in_ok-pool.pool c.in_ok-seats.loaders

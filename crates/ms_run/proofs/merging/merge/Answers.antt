@@ -2,7 +2,7 @@ use Rattle.std.proofs.Common.{◌<◌, ◌∙◌, ◌∷◌, [], List, None, ari
 use Rattle.std.proofs.lemmas.Option.{slice_get_read}
 use Rattle.ms_loaders.specs.declared.replies.Answer.{Answer}
 use Rattle.ms_run.specs.Sink.{PutsAll}
-use Rattle.ms_run.specs.Turn.{place_in}
+use Rattle.ms_run.specs.Turn.{position_in}
 use Rattle.ms_run.proofs.AloneLemmas.{puts_more, puts_none}
 use Rattle.ms_run.proofs.sharing.MergeLemmas.{Next, starts, next_line, has_reply, merges_next, all_merged}
 use Rattle.ms_run.proofs.merging.merge.Given.{Over}
@@ -12,7 +12,7 @@ use Rattle.ms_run.proofs.merging.merge.Goals.{After-index}
 pub loop-line-init : goal.loop-line-init
 loop-line-init g c = (
   [],
-  starts (place_in c.args.turn.now) c.args.lines.now c.args.shares.now.items [] c.len.result
+  starts (position_in c.args.turn.now) c.args.lines.now c.args.shares.now.items [] c.len.result
       c.in_ok-taken.taken.items
       (c.in_ok-taken.ensures.items_if_clones_equal (λ y same. same))
       (sym c.in_ok-taken.taken.ok.0 ∙ c.in_ok-taken.ensures.len)
@@ -25,16 +25,16 @@ within : (g : Over) (c : After-index g) → c.loop-line.line-index < length c.ar
 within g c = omega (arith, c.loop-line-test.true, c.loop-line.auto.line-index-end)
 
 next : (g : Over) (c : After-index g)
-    → Next (place_in c.args.turn.now) c.args.lines.now c.args.shares.now.items c.loop-line.line-index
+    → Next (position_in c.args.turn.now) c.args.lines.now c.args.shares.now.items c.loop-line.line-index
     c.loop-line.taken.items c.line-item.result
-    (c.requires.steps c.loop-line.line-index c.line-item.result (within g c)).0 c.place_of-place.result
+    (c.requires.steps c.loop-line.line-index c.line-item.result (within g c)).0 c.position_of-position.result
     c.index.result.now c.index-next.result.now
 next g c =
-    next_line (place_in c.args.turn.now) c.args.lines.now c.args.shares.now.items c.loop-line.line-index
+    next_line (position_in c.args.turn.now) c.args.lines.now c.args.shares.now.items c.loop-line.line-index
     c.loop-line.taken.items _ _ _ _ c.line-item.is (c.requires.steps c.loop-line.line-index _ (within g c))
-    c.place_of-place.ensures.place (within g c)
+    c.position_of-position.ensures.position (within g c)
     (slice_get_read c.args.shares.now.items _ _ _ c.args.shares.now.ok.0
-    (omega (arith, c.place_of-place.ensures.within, c.requires.count)) c.index.ensures)
+    (omega (arith, c.position_of-position.ensures.within, c.requires.count)) c.index.ensures)
     c.index-next.ensures
 
 pub index-reply-requires : goal.index-reply-requires

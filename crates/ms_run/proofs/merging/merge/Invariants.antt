@@ -1,7 +1,7 @@
 use Rattle.std.proofs.Common.{[], List}
 use Rattle.ms_loaders.specs.declared.replies.Answer.{Answer}
 use Rattle.ms_run.specs.Sink.{PutsAll}
-use Rattle.ms_run.specs.Turn.{place_in}
+use Rattle.ms_run.specs.Turn.{position_in}
 use Rattle.ms_run.proofs.sharing.MergeLemmas.{SoFar}
 use Rattle.ms_run.proofs.merging.merge.Given as goal
 
@@ -9,5 +9,5 @@ use Rattle.ms_run.proofs.merging.merge.Given as goal
 abbrev pub invariant-loop-line : goal.invariant-loop-line
 invariant-loop-line g l =
     (added : List Answer)
-    × SoFar (place_in l.turn) l.lines l.shares.items [] l.line-index added l.taken.items
+    × SoFar (position_in l.turn) l.lines l.shares.items [] l.line-index added l.taken.items
     × PutsAll g.S.AnswerSink.took added l.fn.sink l.sink

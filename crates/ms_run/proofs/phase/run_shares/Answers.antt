@@ -3,8 +3,8 @@ use Rattle.ms_base.specs.State.{Machine}
 use Rattle.ms_pool.specs.Ledger.{Ledger}
 use Rattle.ms_run.specs.Metering.{used_words_of, meter_of}
 use Rattle.ms_loaders.specs.System.{machine_of, AreTogether}
-use Rattle.ms_run.specs.Turn.{place_in, worker_in}
-use Rattle.ms_run.specs.Shares.{place_for}
+use Rattle.ms_run.specs.Turn.{position_in, worker_in}
+use Rattle.ms_run.specs.Shares.{position_for}
 use Rattle.ms_run.proofs.sharing.StandByLemmas.{same_tasks}
 use Rattle.ms_run.proofs.WorkedLemmas.{own_seats, all_manned, same_count, all_answered, still_apart}
 use Rattle.ms_run.proofs.GateLemmas.{shares_gated}
@@ -19,9 +19,9 @@ merge-requires-clause-count g c =
 
 pub merge-requires-clause-answered : goal.merge-requires-clause-answered
 merge-requires-clause-answered g c =
-    all_answered (place_in c.args.turn.now) c.in_ok-shared.shares.items c.in_ok-shares.shares.items c.args.lines.now
+    all_answered (position_in c.args.turn.now) c.in_ok-shared.shares.items c.in_ok-shares.shares.items c.args.lines.now
     (λ at share found. c.in_ok-shared.ensures.dealt.tasks at share found
-    ∙ same_tasks (place_in c.args.turn.now) c.args.lines.now at)
+    ∙ same_tasks (position_in c.args.turn.now) c.args.lines.now at)
     c.in_ok-shares.ensures.worked
 
 pub end_shares-requires-clause-stand : goal.end_shares-requires-clause-stand
@@ -35,8 +35,8 @@ end_shares-requires-clause-stand g c = record {
 
 pub end_shares-requires-clause-apart : goal.end_shares-requires-clause-apart
 end_shares-requires-clause-apart g c = (
-  place_for (place_in c.args.turn.now) c.args.lines.now,
-  still_apart (place_for (place_in c.args.turn.now) c.args.lines.now) c.in_ok-shared.shares.items
+  position_for (position_in c.args.turn.now) c.args.lines.now,
+  still_apart (position_for (position_in c.args.turn.now) c.args.lines.now) c.in_ok-shared.shares.items
       c.in_ok-shares.shares.items c.args.lines.now
       c.in_ok-shared.ensures.dealt.apart c.in_ok-shared.ensures.dealt.tasks c.in_ok-shares.ensures.worked,
 )
@@ -107,6 +107,6 @@ returns-clause-counted g c = λ detail kept. record {
 pub returns-clause-gated : goal.returns-clause-gated
 returns-clause-gated g c =
     shares_gated (g.G.Gate.told c.args.gate.now) (worker_in c.args.turn.now)
-    (place_for (place_in c.args.turn.now) c.args.lines.now) c.in_ok-shared.shared c.in_ok-shared.shares.items
+    (position_for (position_in c.args.turn.now) c.args.lines.now) c.in_ok-shared.shared c.in_ok-shared.shares.items
     c.args.lines.now c.into_parts-pool.result.1 c.in_ok-shared.ensures.dealt c.in_ok-shared.ensures.workers.workers
     c.in_ok-shares.ensures.gated

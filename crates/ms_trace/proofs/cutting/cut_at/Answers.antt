@@ -1,4 +1,4 @@
--- The first separator's place cuts the text.
+-- The first separator's offset cuts the text.
 use Rattle.std.proofs.Common.{◌+◌, nat_eq, sym, ◌∙◌}
 use Rattle.std.proofs.lemmas.List.{take_rest}
 use Rattle.ms_trace.proofs.CutLemmas.{cut_nowhere, cut_there}

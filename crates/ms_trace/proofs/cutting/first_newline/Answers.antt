@@ -1,4 +1,4 @@
--- What the search finds is the first place.
+-- What the search finds is the first offset.
 use Rattle.std.proofs.Common.{nat_eq}
 use Rattle.ms_trace.proofs.CutLemmas.{position_from_first}
 use Rattle.ms_trace.proofs.cutting.first_newline.Goals as goal

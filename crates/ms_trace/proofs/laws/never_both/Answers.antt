@@ -9,6 +9,6 @@ pub returns : goal.returns
 returns c = λ most text trace number kind reads fault.
     let faultless : AreFaultless most 1 (fault.before ++ fault.line ∷ fault.after) =
     rw fault.lines_are at (faultless_from_reads most 1 (lines_of text) trace.lines reads) in
-    let place : number ≡ 1 + length fault.before = omega (arith, fault.number_is) in
-    clash (fault_of most number fault.line) kind (rw place (no_fault_among most 1 fault.before fault.line fault.after faultless))
+    let line_is : number ≡ 1 + length fault.before = omega (arith, fault.number_is) in
+    clash (fault_of most number fault.line) kind (rw line_is (no_fault_among most 1 fault.before fault.line fault.after faultless))
     fault.kind_is

@@ -11,9 +11,9 @@ returns c =
     let chunks = c.args.account.now.chunks in
     let it = c.chunk-chunk.result in
     list_any-from_Any (λ (chunk : Chunk). chunk.start == it.start) chunks (
-      c.args.place,
+      c.args.index,
       it,
       c.requires,
-      get_or_from_slice_get chunks c.args.place it it c.chunk-chunk.ensures,
+      get_or_from_slice_get chunks c.args.index it it c.chunk-chunk.ensures,
       grind (arith, nat_tests),
     )

@@ -59,7 +59,7 @@ wipe-requires-clause-within c =
 pub invariant_of-self : goal.invariant_of-self
 invariant_of-self c =
     let lies = page_lies (goal.at.invariant_of-self c).Else-not-page in (
-      marked _ _ _ c.args.number _ c.self.invariant.0 lies.there (ap (λ (page : Page). page.place) (sym lies.is)) lies.some,
+      marked _ _ _ c.args.number _ c.self.invariant.0 lies.there (ap (λ (page : Page). page.position) (sym lies.is)) lies.some,
       c.count_down.ensures c.self.inside.pages.items _ c.self.invariant.1
           (ap (λ (page : Page). page.written) lies.is
           ∙ was_written c.index-page.result.now.written (goal.at.invariant_of-self c).Else-not-page.if-not-page.false) refl,

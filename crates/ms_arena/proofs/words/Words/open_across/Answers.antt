@@ -1,8 +1,8 @@
 use Rattle.std.proofs.Common.{◌/◌, ◌∙◌, ◌<◌, ◌+◌, ℕ, arith, inl, inr, subst, sym}
 use Rattle.std.proofs.lemmas.Bool.{cases_eq}
-use Rattle.ms_arena.specs.Places.{place_of}
+use Rattle.ms_arena.specs.Positions.{position_of}
 use Rattle.ms_arena.specs.Words.{WordsView}
-use Rattle.ms_arena.proofs.PlacesLemmas.{word_in_stretch}
+use Rattle.ms_arena.proofs.PositionLemmas.{word_in_stretch}
 use Rattle.ms_arena.proofs.words.Words.open_across.Goals as goal
 use Rattle.ms_arena.proofs.words.Words.open_across.Goals.{then-has_none, else-has_none+else-loop-stretch-test}
 
@@ -26,17 +26,17 @@ loop-stretch-preserved c =
       room = omega (arith, so_far.room, c.open_in.ensures.room, c.loop-stretch.auto.stretch);
     }
 
-pub note-requires-clause-places : goal.note-requires-clause-places
-note-requires-clause-places c = λ stretch low high.
+pub note-requires-clause-positions : goal.note-requires-clause-positions
+note-requires-clause-positions c = λ stretch low high.
     let has = word_in_stretch c.args.start (c.args.start + c.args.n) stretch (omega (arith, c.requires.some)) low
     (omega (arith, high, c.div_ceil-past.ensures)) in
-    let placed : 0 < place_of c.if-has_none.self.places stretch =
+    let placed : 0 < position_of c.if-has_none.self.positions stretch =
     elim c.if-has_none.branch [
-      | then-has_none w ↦ subst (λ (words : WordsView). 0 < place_of words.places stretch) (sym w.self-is)
-          (subst (λ (n : ℕ). 0 < place_of w.give.new.self.places n) has.lies
+      | then-has_none w ↦ subst (λ (words : WordsView). 0 < position_of words.positions stretch) (sym w.self-is)
+          (subst (λ (n : ℕ). 0 < position_of w.give.new.self.positions n) has.lies
           (w.give.ensures.here has.word (omega (arith, has.lies, low)) (omega (arith, has.lies, high))))
-      | else-has_none+else-loop-stretch-test w ↦ subst (λ (words : WordsView). 0 < place_of words.places stretch) (sym w.self-is)
-          (subst (λ (n : ℕ). 0 < place_of w.loop-stretch.self.places n) has.lies
+      | else-has_none+else-loop-stretch-test w ↦ subst (λ (words : WordsView). 0 < position_of words.positions stretch) (sym w.self-is)
+          (subst (λ (n : ℕ). 0 < position_of w.loop-stretch.self.positions n) has.lies
           (w.loop-stretch.invariant.here has.word has.low has.high (omega (arith, has.lies, high, w.loop-stretch-test.false))))
     ] in
-    subst (λ (words : WordsView). 0 < place_of words.places stretch) (sym c.self-2.view_is) placed
+    subst (λ (words : WordsView). 0 < position_of words.positions stretch) (sym c.self-2.view_is) placed

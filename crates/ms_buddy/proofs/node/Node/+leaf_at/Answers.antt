@@ -1,6 +1,6 @@
 -- The leaf is in the half where the offset is.
 use Rattle.std.proofs.Common.{rules, arith}
-use Rattle.ms_buddy.proofs.TreeHalvesLemmas.{lower_place, upper_place, size_of-halves}
+use Rattle.ms_buddy.proofs.TreeHalvesLemmas.{lower_part, upper_part, size_of-halves}
 use Rattle.ms_buddy.specs.Boxes.{shape_of}
 use Rattle.ms_buddy.proofs.boxes.BoxLemmas.{at_boxes, lower_leaf, upper_leaf}
 use Rattle.ms_buddy.proofs.node.Node.+leaf_at.Goals as goal
@@ -8,7 +8,7 @@ use Rattle.ms_buddy.proofs.node.Node.+leaf_at.Goals as goal
 pub leaf_at-requires : goal.leaf_at-requires
 leaf_at-requires g t c κs within =
     let s = at_boxes _ c.args.start _ _ _ _ _ _ c.in-Split.is c.requires.tree c.half_of.ensures.size in
-    (omega (arith, s.low), (search rules, (rw c.deref.ensures s.halves.low_tree, (lower_place _ _ c.requires.place s.low, (search rules, omega (arith, s.halves.size))))))
+    (omega (arith, s.low), (search rules, (rw c.deref.ensures s.halves.low_tree, (lower_part _ _ c.requires.of_root s.low, (search rules, omega (arith, s.halves.size))))))
 
 pub leaf_at-requires-else-offset-middle : goal.leaf_at-requires-else-offset-middle
 leaf_at-requires-else-offset-middle g t c κs within =
@@ -19,7 +19,7 @@ leaf_at-requires-else-offset-middle g t c κs within =
         (
           rw c.deref-else-offset-middle.ensures s.halves.high_tree,
           (
-            upper_place _ _ _ c.requires.place s.low (omega (arith, s.halves.size)),
+            upper_part _ _ _ c.requires.of_root s.low (omega (arith, s.halves.size)),
             (omega arith, omega (arith, s.halves.size, size_of-halves c.args.level s.low)),
           ),
         ),

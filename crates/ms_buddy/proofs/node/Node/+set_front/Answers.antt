@@ -1,7 +1,7 @@
 -- The leaf is in the half where it starts, and the other half stays.
 use Rattle.std.proofs.Common.{rules, arith, ap, sym, ◌∙◌}
 use Rattle.ms_buddy.specs.Leaves.{with_front}
-use Rattle.ms_buddy.proofs.TreeHalvesLemmas.{lower_place, upper_place}
+use Rattle.ms_buddy.proofs.TreeHalvesLemmas.{lower_part, upper_part}
 use Rattle.ms_buddy.specs.Boxes.{shape_of}
 use Rattle.ms_buddy.proofs.boxes.BoxLemmas.{at_boxes}
 use Rattle.ms_buddy.proofs.SplitLemmas.{lower_lent, upper_lent, front_acts, lower_changed, upper_changed}
@@ -11,13 +11,13 @@ pub set_front-requires : goal.set_front-requires
 set_front-requires g t c κs within =
     let s = at_boxes _ c.args.start _ _ _ _ _ _ c.in-Split.is c.requires.tree c.half_of.ensures.size in
     let value = c.deref_mut.ensures.value in
-    (omega (arith, s.low), (search rules, (rw value s.halves.low_tree, (lower_place _ _ c.requires.place s.low, (rw value (lower_lent _ _ _ _ _ _ s.halves c.if-span-middle.true (rw s.lent at c.requires.lent)), search rules)))))
+    (omega (arith, s.low), (search rules, (rw value s.halves.low_tree, (lower_part _ _ c.requires.of_root s.low, (rw value (lower_lent _ _ _ _ _ _ s.halves c.if-span-middle.true (rw s.lent at c.requires.lent)), search rules)))))
 
 pub set_front-requires-else-span-middle : goal.set_front-requires-else-span-middle
 set_front-requires-else-span-middle g t c κs within =
     let s = at_boxes _ c.args.start _ _ _ _ _ _ c.in-Split.is c.requires.tree c.half_of.ensures.size in
     let value = c.deref_mut-else-span-middle.ensures.value in
-    (omega (arith, s.low), (search rules, (rw value s.halves.high_tree, (upper_place _ _ _ c.requires.place s.low (omega (arith, s.halves.size)), (rw value (upper_lent _ _ _ _ _ _ s.halves (omega arith) (rw s.lent at c.requires.lent)), search rules)))))
+    (omega (arith, s.low), (search rules, (rw value s.halves.high_tree, (upper_part _ _ _ c.requires.of_root s.low (omega (arith, s.halves.size)), (rw value (upper_lent _ _ _ _ _ _ s.halves (omega arith) (rw s.lent at c.requires.lent)), search rules)))))
 
 pub returns-then-span-middle-clause-lent : goal.returns-then-span-middle-clause-lent
 returns-then-span-middle-clause-lent g t c =

@@ -1,6 +1,6 @@
 -- The leaf is made in the half where it starts.
 use Rattle.std.proofs.Common.{rules, arith}
-use Rattle.ms_buddy.proofs.TreeHalvesLemmas.{lower_place, upper_place}
+use Rattle.ms_buddy.proofs.TreeHalvesLemmas.{lower_part, upper_part}
 use Rattle.ms_buddy.proofs.changes.CarveLemmas.{lower_inside, upper_inside}
 use Rattle.ms_buddy.proofs.node.Node.+with_lent.Goals as goal
 
@@ -10,8 +10,8 @@ with_lent-requires g t c κs within = (
   (
     search rules,
     (
-      lower_place _ _ c.requires.place (omega arith),
-      (c.requires.part, (lower_inside c.args.span _ _ _ c.requires.place (omega arith) c.requires.part c.requires.inside c.half_of.ensures.size c.if-span-middle.true, search rules)),
+      lower_part _ _ c.requires.of_root (omega arith),
+      (c.requires.part, (lower_inside c.args.span _ _ _ c.requires.of_root (omega arith) c.requires.part c.requires.inside c.half_of.ensures.size c.if-span-middle.true, search rules)),
     ),
   ),
 )
@@ -22,7 +22,7 @@ with_lent-requires-else-span-middle g t c κs within = (
   (
     search rules,
     (
-      upper_place _ _ _ c.requires.place (omega arith) (omega arith),
+      upper_part _ _ _ c.requires.of_root (omega arith) (omega arith),
       (c.requires.part, (upper_inside c.args.span _ _ _ (omega arith) c.requires.part.0 c.requires.inside c.half_of.ensures.size (omega arith), search rules)),
     ),
   ),

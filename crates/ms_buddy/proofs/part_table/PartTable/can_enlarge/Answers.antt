@@ -8,7 +8,7 @@ use Rattle.ms_buddy.specs.Leaves.{AreLeaves, free_of, is_same, span_at}
 use Rattle.ms_buddy.proofs.bits.FreeBitLemmas.{free_by_bit}
 use Rattle.ms_buddy.proofs.FreeLeafLemmas.{free_of-kept}
 use Rattle.ms_buddy.proofs.KeptTreeLemmas.{are_leaves}
-use Rattle.ms_buddy.proofs.changes.LeaderLemmas.{IsLeaderThere, follower_cannot, follower_place, leader_can, leader_there, parent_size, root_cannot}
+use Rattle.ms_buddy.proofs.changes.LeaderLemmas.{IsLeaderThere, follower_cannot, follower_part, leader_can, leader_there, parent_size, root_cannot}
 use Rattle.ms_buddy.proofs.part_table.PartTable.can_enlarge.Given.{Over}
 use Rattle.ms_buddy.proofs.part_table.PartTable.can_enlarge.Goals.{Else-span-words-ne0, then-level-eq0-via-then-level-eq0}
 use Rattle.ms_buddy.proofs.part_table.PartTable.can_enlarge.Goals.{then-level-eq0-via-else-level-eq0+then-span-words-ne0}
@@ -55,7 +55,7 @@ returns g c =
     (rw (size, c.number-level.ensures.same) at c.number.ensures.same)
     ∙ free_by_bit kept.node c.self.inside.free.words (span_at (c.args.span.start + size_of c.args.span.level) c.args.span.level)
     kept.tree.tree kept.tree.marked
-    (follower_place c.args.span.start c.args.span.level leads.some leads.leads leads.placed leads.low
+    (follower_part c.args.span.start c.args.span.level leads.some leads.leads leads.placed leads.low
     (rw size at leads.within))
     ∙ ap (list_any (is_same (span_at (c.args.span.start + size_of c.args.span.level) c.args.span.level)))
     (free_of-kept _ _ _ _ _ kept ∙ ap free_of c.self.view_is)

@@ -6,14 +6,14 @@ use Rattle.std.specs.List.{list_any}
 use Rattle.ms_base.specs.declared.refusal.Refusal.{Refusal}
 use Rattle.ms_base.specs.declared.refusal.Refusal.TheVariants.{NoRoom, OutOfMemory}
 use Rattle.ms_buddy.specs.Counts.{holder_of}
-use Rattle.ms_buddy.specs.Places.{lent_from}
+use Rattle.ms_buddy.specs.Entries.{lent_from}
 use Rattle.ms_buddy.specs.Leaves.{fits_in, free_of, is_same, leaf_of, span_at, with_leaf}
 use Rattle.ms_buddy.proofs.CallLemmas.{IsAsked, fits_there, holder_listed}
 use Rattle.ms_buddy.proofs.LentPartLemmas.{front_fits}
 use Rattle.ms_buddy.proofs.LendLemmas.{Lends, asked, err_holds}
 use Rattle.ms_buddy.proofs.CallLemmas.{none_fits, not_whole}
 use Rattle.ms_buddy.proofs.LendLemmas.{kept_then, lent_then, node_then, ok_holds, parts_then}
-use Rattle.ms_buddy.proofs.LendLemmas.{place_then}
+use Rattle.ms_buddy.proofs.LendLemmas.{entry_then}
 use Rattle.ms_buddy.proofs.changes.CarvedLemmas.{clash}
 use Rattle.ms_buddy.proofs.FreeLeafLemmas.{free_of-kept}
 use Rattle.ms_buddy.proofs.bits.FreeNumberLemmas.{tree_may_part}
@@ -47,7 +47,7 @@ misses g c =
 
 -- The part lies in a free leaf, that of the level found.
 lends : (g : Over) (c : In-Some g)
-    → Lends (lent_from 0 c.self.inside.places) (length c.self.inside.places) c.self.inside.counts c.self.inside.free.words
+    → Lends (lent_from 0 c.self.inside.entries) (length c.self.inside.entries) c.self.inside.counts c.self.inside.free.words
     c.self.inside.free.filled (span_at c.args.at c.args.level) c.args.owner c.args.front c.in-Some.free
 lends g c =
     let kept = c.self.invariant in
@@ -69,7 +69,7 @@ fits g c =
     sym (ap (fits_in part) (free_of-kept _ _ _ _ _ l.kept ∙ ap free_of c.self.view_is))
     ∙ fits_there l.kept.node _ part c.in-Some.free l.is l.order l.any
 
--- Where there is memory, the other places are there where the root is split.
+-- Where there is memory, the other entries are there where the root is split.
 made : (g : Over) (c : Else-is_err g) → c.in-Some.free < c.args.level → length c.make.new.self ≡ 4096
 made g c deep =
     ok_holds c.make.result (IsTrue (nat_lt c.in-Some.free c.number-lent.result) → length c.make.new.self ≡ 4096)
@@ -112,7 +112,7 @@ of-requires g c = front_fits c.args.level _ c.requires.some (omega (arith, c.req
 
 pub put-requires-clause-within : goal.put-requires-clause-within
 put-requires-clause-within g c =
-    place_then _ _ _ _ _ _ _ _ _ (lends g (goal.at.put-requires-clause-within g c).In-Some) _
+    entry_then _ _ _ _ _ _ _ _ _ (lends g (goal.at.put-requires-clause-within g c).In-Some) _
     (made g (goal.at.put-requires-clause-within g c).Else-is_err) c.make.ensures.stay c.make.ensures.more
 
 pub part_counts-requires-clause-some : goal.part_counts-requires-clause-some

@@ -1,11 +1,11 @@
--- The follower's bit is cleared, and a larger part stands at the leader's place.
+-- The follower's bit is cleared, and a larger part stands at the leader's entry.
 use Rattle.std.proofs.Common.{◌-◌, ◌/◌, ℕ, sym, ap, ◌∙◌, arith}
 use Rattle.ms_base.specs.Level.{size_of}
 use Rattle.ms_buddy.specs.Counts.{follower_of}
 use Rattle.ms_buddy.specs.Leaves.{can_enlarge, free_of, with_parent}
 use Rattle.ms_buddy.proofs.LentPartLemmas.{IsLentHere, follower_in_root, front_fits, lent_here, may_become}
-use Rattle.ms_buddy.proofs.PlaceChangeLemmas.{parent_put}
-use Rattle.ms_buddy.proofs.PlaceChangeLemmas.{same_length}
+use Rattle.ms_buddy.proofs.EntryChangeLemmas.{parent_put}
+use Rattle.ms_buddy.proofs.EntryChangeLemmas.{same_length}
 use Rattle.ms_buddy.proofs.changes.EnlargedLemmas.{MayBecome, enlarged}
 use Rattle.ms_buddy.proofs.FreeLeafLemmas.{free_of-kept}
 use Rattle.ms_buddy.proofs.bits.FreeNumberLemmas.{enlarged_bits}
@@ -17,27 +17,27 @@ use Rattle.ms_buddy.proofs.part_table.PartTable.enlarge.Goals.{After-self, Else-
 
 -- What is known of the part, and that it may become its parent.
 there : (g : Over) (c : After-self g)
-    → IsLentHere c.self.inside.places c.self.inside.counts c.self.inside.free.words c.self.inside.free.filled c.args.span
+    → IsLentHere c.self.inside.entries c.self.inside.counts c.self.inside.free.words c.self.inside.free.filled c.args.span
 there g c = lent_here _ _ _ _ _ c.args.span c.self.invariant c.self.view_is c.requires.lent
 
 can : (g : Over) (c : Else-not-can_enlarge g)
-    → (is : IsLentHere c.self.inside.places c.self.inside.counts c.self.inside.free.words c.self.inside.free.filled c.args.span)
+    → (is : IsLentHere c.self.inside.entries c.self.inside.counts c.self.inside.free.words c.self.inside.free.filled c.args.span)
     → MayBecome 0 0 c.args.span c.args.front is.kept.node
 can g c is =
-    may_become _ _ _ _ _ c.self.inside.places c.args.span c.args.front is c.requires.some c.requires.within
+    may_become _ _ _ _ _ c.self.inside.entries c.args.span c.args.front is c.requires.some c.requires.within
     (ap (can_enlarge c.args.span) (free_of-kept _ _ _ _ _ is.kept ∙ ap free_of c.self.view_is) ∙ sym c.if-not-can_enlarge.ensures)
 
 pub overflow_add-start : goal.overflow_add-start
 overflow_add-start g c =
     let is = there g (goal.at.overflow_add-start g c).After-self in
     let may = can g (goal.at.overflow_add-start g c).Else-not-can_enlarge is in
-    omega (arith, follower_in_root _ _ _ _ _ c.self.inside.places c.args.span is may.can, c.words_of.ensures.size, ap size_of c.number-level.ensures.same)
+    omega (arith, follower_in_root _ _ _ _ _ c.self.inside.entries c.args.span is may.can, c.words_of.ensures.size, ap size_of c.number-level.ensures.same)
 
 pub number-follower-requires-clause-in_root : goal.number-follower-requires-clause-in_root
 number-follower-requires-clause-in_root g c =
     let is = there g (goal.at.number-follower-requires-clause-in_root g c).After-self in
     let may = can g (goal.at.number-follower-requires-clause-in_root g c).Else-not-can_enlarge is in
-    omega (arith, follower_in_root _ _ _ _ _ c.self.inside.places c.args.span is may.can, c.words_of.ensures.size, ap size_of c.number-level.ensures.same)
+    omega (arith, follower_in_root _ _ _ _ _ c.self.inside.entries c.args.span is may.can, c.words_of.ensures.size, ap size_of c.number-level.ensures.same)
 
 pub change-requires-clause-within : goal.change-requires-clause-within
 change-requires-clause-within g c =
@@ -82,16 +82,16 @@ invariant_of-self g c =
         told = c.put.ensures.filled is.kept.tree.told;
       };
       lent_is = done.lent ∙ ap (with_parent c.args.span c.args.front) is.kept.lent_is
-          ∙ sym (parent_put c.self.inside.places c.args.span c.args.front _ is.at
+          ∙ sym (parent_put c.self.inside.entries c.args.span c.args.front _ is.at
           (c.new.ensures ∙ ap (λ (n : ℕ). n - 1) c.number-level.ensures.same));
-      some = rw (same_length c.self.inside.places (c.args.span.start / 128) _) is.kept.some;
-      room = λ split. same_length c.self.inside.places (c.args.span.start / 128) _ ∙ is.kept.room (done.was split);
+      some = rw (same_length c.self.inside.entries (c.args.span.start / 128) _) is.kept.some;
+      room = λ split. same_length c.self.inside.entries (c.args.span.start / 128) _ ∙ is.kept.room (done.was split);
     })
 
 pub returns-clause-lent : goal.returns-clause-lent
 returns-clause-lent g c =
     let is = there g (goal.at.returns-clause-lent g c).After-self in
-    rw (c.change.ensures is.at.lending is.at.there) (parent_put c.self.inside.places c.args.span c.args.front _ is.at
+    rw (c.change.ensures is.at.lending is.at.there) (parent_put c.self.inside.entries c.args.span c.args.front _ is.at
     (c.new.ensures ∙ ap (λ (n : ℕ). n - 1) c.number-level.ensures.same) ∙ ap (with_parent c.args.span c.args.front) c.self.view_is)
 
 pub returns-clause-leaves : goal.returns-clause-leaves

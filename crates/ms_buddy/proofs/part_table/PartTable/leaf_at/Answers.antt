@@ -1,4 +1,4 @@
--- A leaf of the level is free by its bit, or lent by what stands at its place, and one of some
+-- A leaf of the level is free by its bit, or lent by what stands at its entry, and one of some
 -- level there is.
 use Rattle.std.proofs.Common.{◌≡◌, ◌≤◌, ◌<◌, ℕ, Some, true, false, sym, ap, subst, ◌∙◌, inl, inr, arith}
 use Rattle.std.specs.Prelude.{◌==◌}
@@ -11,7 +11,7 @@ use Rattle.ms_buddy.specs.Counts.{holder_of, number_of}
 use Rattle.ms_buddy.specs.FreeBits.{bit_of}
 use Rattle.ms_buddy.specs.Leaves.{covers, free_of, is_lent, span_at}
 use Rattle.ms_buddy.proofs.CallLemmas.{InRoot, holder_found, holder_listed}
-use Rattle.ms_buddy.proofs.LentPartLemmas.{holder_at_place, lends_there, some_level}
+use Rattle.ms_buddy.proofs.LentPartLemmas.{holder_at_entry, lends_there, some_level}
 use Rattle.ms_buddy.proofs.searches.FoundLemmas.{alike}
 use Rattle.ms_buddy.proofs.FreeLeafLemmas.{free_of-kept}
 use Rattle.ms_buddy.proofs.part_table.PartTable.leaf_at.Goals as goal
@@ -38,7 +38,7 @@ returns-then-has-clause-leaf g c =
 pub lent_at-requires-clause-whole : goal.lent_at-requires-clause-whole
 lent_at-requires-clause-whole g c =
     rw c.start_of_holder-start.ensures.start
-    (holder_at_place c.loop-level.level c.args.offset (omega (arith, c.loop-level-test.true)) c.requires)
+    (holder_at_entry c.loop-level.level c.args.offset (omega (arith, c.loop-level-test.true)) c.requires)
 
 pub returns-in-Some-clause-leaf : goal.returns-in-Some-clause-leaf
 returns-in-Some-clause-leaf g c =

@@ -1,4 +1,4 @@
--- The bit of the part says whether it is a free leaf, and its place whether it is lent.
+-- The bit of the part says whether it is a free leaf, and its entry whether it is lent.
 use Rattle.std.proofs.Common.{◌≡◌, ◌<◌, ◌≤◌, ℕ, ◌+◌, false, List, ap, sym, subst, ◌∙◌, ◌∷◌, arith}
 use Rattle.std.specs.Prelude.{◌==◌, IsTrue}
 use Rattle.std.specs.List.{AllByRecursion, list_any}
@@ -8,10 +8,10 @@ use Rattle.ms_buddy.specs.FreeBits.{bit_of}
 use Rattle.ms_buddy.specs.Leaves.{LentLeaf, free_of, from_on, is_lent, is_same, span_at}
 use Rattle.ms_buddy.specs.Row.{AreSmaller}
 use Rattle.ms_buddy.specs.Tree.{free_in}
-use Rattle.ms_buddy.proofs.CallLemmas.{at_place}
+use Rattle.ms_buddy.proofs.CallLemmas.{at_entry}
 use Rattle.ms_buddy.proofs.FreeLeafLemmas.{free_of-kept}
 use Rattle.ms_buddy.proofs.bits.FreeBitLemmas.{free_by_bit}
-use Rattle.ms_buddy.proofs.bits.FreeNumberLemmas.{IsSpanPlace, free_places, root_place}
+use Rattle.ms_buddy.proofs.bits.FreeNumberLemmas.{IsRootSpan, free_spans, root_part}
 use Rattle.ms_buddy.proofs.searches.FoundLemmas.{free_rising}
 use Rattle.ms_buddy.proofs.searches.SeenLemmas.{free_seen, lends_part, lent_seen, smaller, smallest_seen}
 use Rattle.ms_buddy.proofs.part_table.PartTable.look.Given.{Over}
@@ -27,16 +27,16 @@ told : (g : Over) (c : After-has g)
     → c.has.result ≡ list_any (is_same (span_at c.args.start c.args.level)) (free_in 0 0 c.self.invariant.node)
 told g c = c.has.ensures ∙ ap (λ n. bit_of c.self.inside.free.words n == 1) c.number.ensures.same
     ∙ free_by_bit c.self.invariant.node c.self.inside.free.words (span_at c.args.start c.args.level)
-    c.self.invariant.tree.tree c.self.invariant.tree.marked c.requires.place
+    c.self.invariant.tree.tree c.self.invariant.tree.marked c.requires.of_root
 
 -- Where it isn't set the free leaves that meet the part are smaller.
 none_larger : (g : Over) (c : After-has g) → c.has.result ≡ false
     → free_in 0 0 c.self.invariant.node ≡ free_of c.args.self.now
     → AreSmaller c.args.level c.args.start (free_of c.args.self.now)
 none_larger g c clear free =
-    smaller c.args.level c.args.start (free_of c.args.self.now) c.requires.place
-    (subst (AllByRecursion IsSpanPlace) free
-    (free_places 0 0 c.self.invariant.node c.self.invariant.tree.tree root_place)) c.requires.within
+    smaller c.args.level c.args.start (free_of c.args.self.now) c.requires.of_root
+    (subst (AllByRecursion IsRootSpan) free
+    (free_spans 0 0 c.self.invariant.node c.self.invariant.tree.tree root_part)) c.requires.within
     (subst (λ (parts : List Span). list_any (is_same (span_at c.args.start c.args.level)) parts ≡ false) free
     (sym (told g c) ∙ clear))
 
@@ -54,12 +54,12 @@ returns-then-level-eq12 g c =
     let free = kept_free g (goal.at.returns-then-level-eq12 g c).After-self in
     let smaller = none_larger g (goal.at.returns-then-level-eq12 g c).After-has c.if-has.false free in
     rw c.if-level-eq12.true (smallest_seen c.args.start (free_of c.args.self.now)
-    (subst (AllByRecursion IsSpanPlace) free
-    (free_places 0 0 c.self.invariant.node c.self.invariant.tree.tree root_place)) (rw c.if-level-eq12.true at smaller))
+    (subst (AllByRecursion IsRootSpan) free
+    (free_spans 0 0 c.self.invariant.node c.self.invariant.tree.tree root_part)) (rw c.if-level-eq12.true at smaller))
 
 pub lent_at-requires-clause-whole : goal.lent_at-requires-clause-whole
 lent_at-requires-clause-whole g c =
-    at_place c.args.level c.args.start c.requires.place.level_fits c.requires.place.aligned
+    at_entry c.args.level c.args.start c.requires.of_root.level_fits c.requires.of_root.aligned
 
 pub returns-in-Some : goal.returns-in-Some
 returns-in-Some g c =
@@ -72,7 +72,7 @@ returns-in-Some g c =
 
 pub returns-in-None : goal.returns-in-None
 returns-in-None g c = (
-  below c.args.level c.requires.place.level_fits c.if-level-eq12.false,
+  below c.args.level c.requires.of_root.level_fits c.if-level-eq12.false,
   none_larger g (goal.at.returns-in-None g c).After-has c.if-has.false
       (kept_free g (goal.at.returns-in-None g c).After-self),
 )

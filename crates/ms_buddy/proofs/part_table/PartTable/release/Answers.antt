@@ -1,10 +1,10 @@
--- The bits tell how far the part merges, and its place is empty then.
+-- The bits tell how far the part merges, and its entry is empty then.
 use Rattle.std.proofs.Common.{◌/◌, [], ◌∷◌, Some, sym, ap, ◌∙◌, arith}
 use Rattle.ms_buddy.specs.Counts.{beside, holder_of}
 use Rattle.ms_buddy.specs.FreeBits.{IsMoved}
 use Rattle.ms_buddy.specs.Leaves.{without_leaf}
 use Rattle.ms_buddy.proofs.LentPartLemmas.{IsLentHere, Returns, lent_here, returned}
-use Rattle.ms_buddy.proofs.PlaceChangeLemmas.{release_put, same_length}
+use Rattle.ms_buddy.proofs.EntryChangeLemmas.{release_put, same_length}
 use Rattle.ms_buddy.proofs.searches.FoundLemmas.{alike}
 use Rattle.ms_buddy.proofs.FreeLeafLemmas.{free_of-tree}
 use Rattle.ms_buddy.proofs.bits.FreeNumberLemmas.{joined_bits, tree_may_join}
@@ -16,11 +16,11 @@ use Rattle.ms_buddy.proofs.part_table.PartTable.release.Goals.{After-self, After
 
 -- What is known of the part, and what its release leaves.
 there : (g : Over) (c : After-self g)
-    → IsLentHere c.self.inside.places c.self.inside.counts c.self.inside.free.words c.self.inside.free.filled c.args.span
+    → IsLentHere c.self.inside.entries c.self.inside.counts c.self.inside.free.words c.self.inside.free.filled c.args.span
 there g c = lent_here _ _ _ _ _ c.args.span c.self.invariant c.self.view_is c.requires
 
 left : (g : Over) (c : After-merge-free g)
-    → (is : IsLentHere c.self.inside.places c.self.inside.counts c.self.inside.free.words c.self.inside.free.filled c.args.span)
+    → (is : IsLentHere c.self.inside.entries c.self.inside.counts c.self.inside.free.words c.self.inside.free.filled c.args.span)
     → Returns c.self.inside.free.words c.args.span c.merge-free.result is.kept.node
 left g c is =
     returned is.kept.node _ c.args.span c.merge-free.result is.root is.there
@@ -28,7 +28,7 @@ left g c is =
     (λ below h k. c.merge-free.ensures.merged below h (omega (arith, k, c.number-lent.ensures.same)))
 
 joined : (g : Over) (c : After-merge-free g)
-    → (is : IsLentHere c.self.inside.places c.self.inside.counts c.self.inside.free.words c.self.inside.free.filled c.args.span)
+    → (is : IsLentHere c.self.inside.entries c.self.inside.counts c.self.inside.free.words c.self.inside.free.filled c.args.span)
     → IsMoved c.merge-free.new.self.words (holder_of c.merge-free.result c.args.span ∷ [])
     (beside (holder_of c.merge-free.result c.args.span) c.args.span) c.self.inside.free.words
 joined g c is =
@@ -86,15 +86,15 @@ invariant_of-self g c =
         told = c.merge-free.ensures.filled is.kept.tree.told;
       };
       lent_is = done.lent ∙ ap (without_leaf c.args.span) is.kept.lent_is
-          ∙ sym (release_put c.self.inside.places c.args.span is.at);
-      some = rw (same_length c.self.inside.places (c.args.span.start / 128) _) is.kept.some;
-      room = λ split. same_length c.self.inside.places (c.args.span.start / 128) _ ∙ is.kept.room (done.was split);
+          ∙ sym (release_put c.self.inside.entries c.args.span is.at);
+      some = rw (same_length c.self.inside.entries (c.args.span.start / 128) _) is.kept.some;
+      room = λ split. same_length c.self.inside.entries (c.args.span.start / 128) _ ∙ is.kept.room (done.was split);
     })
 
 pub returns-clause-lent : goal.returns-clause-lent
 returns-clause-lent g c =
     let is = there g (goal.at.returns-clause-lent g c).After-self in
-    rw c.put.ensures (release_put c.self.inside.places c.args.span is.at ∙ ap (without_leaf c.args.span) c.self.view_is)
+    rw c.put.ensures (release_put c.self.inside.entries c.args.span is.at ∙ ap (without_leaf c.args.span) c.self.view_is)
 
 pub returns-clause-free : goal.returns-clause-free
 returns-clause-free g c =
@@ -102,7 +102,7 @@ returns-clause-free g c =
     let done = left g (goal.at.returns-clause-free g c).After-merge-free is in
     rw (
       c.put.ensures,
-      release_put c.self.inside.places c.args.span is.at,
+      release_put c.self.inside.entries c.args.span is.at,
       ← is.kept.lent_is,
       ← done.lent,
       free_of-tree done.after done.tree,

@@ -1,11 +1,11 @@
--- The front at the leaf's place changes, and the root is split as it was.
+-- The front at the leaf's entry changes, and the root is split as it was.
 use Rattle.std.proofs.Common.{◌/◌, List, sym, ap, subst, ◌∙◌, arith}
 use Rattle.ms_base.specs.declared.span.Span.{Span}
 use Rattle.ms_buddy.specs.Counts.{AreCounts}
 use Rattle.ms_buddy.specs.FreeBits.{AreFreeBits}
 use Rattle.ms_buddy.specs.Leaves.{with_front}
 use Rattle.ms_buddy.proofs.LentPartLemmas.{IsLentHere, front_fits, lent_here}
-use Rattle.ms_buddy.proofs.PlaceChangeLemmas.{front_put, same_length}
+use Rattle.ms_buddy.proofs.EntryChangeLemmas.{front_put, same_length}
 use Rattle.ms_buddy.proofs.changes.FrontedLemmas.{fronted}
 use Rattle.ms_buddy.proofs.KeptTreeLemmas.{kept_leaves}
 use Rattle.ms_buddy.proofs.part_table.PartTable.set_front.Given.{Over}
@@ -13,7 +13,7 @@ use Rattle.ms_buddy.proofs.part_table.PartTable.set_front.Goals as goal
 use Rattle.ms_buddy.proofs.part_table.PartTable.set_front.Goals.{After-self}
 
 there : (g : Over) (c : After-self g)
-    → IsLentHere c.self.inside.places c.self.inside.counts c.self.inside.free.words c.self.inside.free.filled c.args.span
+    → IsLentHere c.self.inside.entries c.self.inside.counts c.self.inside.free.words c.self.inside.free.filled c.args.span
 there g c = lent_here _ _ _ _ _ c.args.span c.self.invariant c.self.view_is c.requires.lent
 
 pub change-requires-clause-within : goal.change-requires-clause-within
@@ -40,15 +40,15 @@ invariant_of-self g c =
         told = is.kept.tree.told;
       };
       lent_is = done.lent ∙ ap (with_front c.args.span c.args.front) is.kept.lent_is
-          ∙ sym (front_put c.self.inside.places c.args.span c.args.front is.at);
-      some = rw (same_length c.self.inside.places (c.args.span.start / 128) _) is.kept.some;
-      room = λ split. same_length c.self.inside.places (c.args.span.start / 128) _ ∙ is.kept.room (done.was split);
+          ∙ sym (front_put c.self.inside.entries c.args.span c.args.front is.at);
+      some = rw (same_length c.self.inside.entries (c.args.span.start / 128) _) is.kept.some;
+      room = λ split. same_length c.self.inside.entries (c.args.span.start / 128) _ ∙ is.kept.room (done.was split);
     })
 
 pub returns-clause-front : goal.returns-clause-front
 returns-clause-front g c =
     let is = there g (goal.at.returns-clause-front g c).After-self in
-    rw (c.change.ensures is.at.lending is.at.there) (front_put c.self.inside.places c.args.span c.args.front is.at
+    rw (c.change.ensures is.at.lending is.at.there) (front_put c.self.inside.entries c.args.span c.args.front is.at
     ∙ ap (with_front c.args.span c.args.front) c.self.view_is)
 
 pub returns-clause-leaves : goal.returns-clause-leaves

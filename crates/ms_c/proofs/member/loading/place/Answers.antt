@@ -8,6 +8,6 @@ use Rattle.ms_c.proofs.member.loading.place.Goals as goal
 pub returns : goal.returns
 returns c =
     subst (λ (reply : Option Reply). AnswersAlone c.args.space c.args.block c.args.words c.args.loader.now reply
-    c.allocate.new.self) (sym c.tell_alone.ensures)
+    c.allocate.new.self) (sym c.alone_reply.ensures)
     (answers_alone c.args.space _ c.args.loader.now c.allocate.new.self c.args.block c.args.words c.one-source.result
     c.allocate.new.source c.allocate.result c.allocate.ensures.allocates c.allocate.ensures.unchanged)

@@ -8,6 +8,6 @@ use Rattle.ms_c.proofs.member.taking.place_own.Goals as goal
 pub returns : goal.returns
 returns c =
     subst (λ (reply : Option Reply). AnswersOwn c.args.space c.args.words c.args.arenas.now reply c.place_hosted.new.hosted)
-    (sym c.tell_placed.ensures)
+    (sym c.placed_reply.ensures)
     (own_answers c.args.space c.args.words c.args.arenas.now c.place_hosted.new.hosted c.place_hosted.result c.place_hosted.ensures.placed
     c.place_hosted.ensures.refused c.place_hosted.ensures.unchanged)

@@ -1,7 +1,7 @@
 use Rattle.std.proofs.Common.{◌∙◌, sym, ap, arith, inl, inr, length, ◌-◌, ◌+◌}
 use Rattle.std.proofs.lemmas.Bool.{cases_lt, eq-eqb}
 use Rattle.ms_base.specs.declared.span.Block.{Block}
-use Rattle.ms_loaders.proofs.TableLemmas.{at_its_place, before_row, past_row}
+use Rattle.ms_loaders.proofs.TableLemmas.{at_its_slot, before_row, past_row}
 use Rattle.ms_loaders.proofs.naming.finding.name_in_row.Goals as goal
 
 pub returns-clause-none : goal.returns-clause-none
@@ -11,7 +11,7 @@ returns-clause-none c = λ name here. elim (cases_lt name c.args.first) [
   | inr from ↦ elim (cases_lt name (c.args.first + length c.args.row.now)) [
     | inl less ↦ absurd
         (c.loop-at.invariant (name - c.args.first) (omega (arith, from, less, c.loop-at-test.false))
-        (sym (at_its_place c.args.first c.args.row.now (name - c.args.first) name (omega (arith, from))) ∙ here))
+        (sym (at_its_slot c.args.first c.args.row.now (name - c.args.first) name (omega (arith, from))) ∙ here))
     | inr past ↦ eq-eqb c.args.block.words 0
         (ap (λ (b : Block). b.words) (sym here ∙ past_row c.args.first c.args.row.now name past))
   ]

@@ -13,23 +13,23 @@ use Rattle.ms_pool.proofs.ledger.KeepsLemmas.{kept_however_told}
 use Rattle.ms_pool.proofs.lender.Lender.grow.Goals as goal
 use Rattle.ms_pool.proofs.lender.Lender.grow.Goals.{After-index, In_default-commit_limit}
 
--- The chunk is the account's, at its place.
+-- The chunk is the account's, at its index.
 found : (c : After-index)
     → let f = c.account.inside in
     IsFoundAt c.args.self.now (record { owner = f.owner; space = f.space; chunks = f.chunks.items }) c.args.start
-    c.place_of-place.result c.index.result.now
+    c.index_of-index.result c.index.result.now
 found c =
     found_there c.args.self.now _ _ c.args.start _ c.index.result.now _ c.requires.kept c.account.view_is
-    c.requires.served c.account.invariant c.deref.ensures.value c.place_of-place.ensures.there
-    c.place_of-place.ensures.starts c.index.ensures
+    c.requires.served c.account.invariant c.deref.ensures.value c.index_of-index.ensures.there
+    c.index_of-index.ensures.starts c.index.ensures
 
 -- Within the limit, all is well with the greater one.
 grown : (c : In_default-commit_limit)
     → let f = c.account.inside in
     IsFoundAt c.args.self.now (record { owner = f.owner; space = f.space; chunks = f.chunks.items }) c.args.start
-    c.place_of-place.result c.index.result.now
+    c.index_of-index.result c.index.result.now
     → GrowsThere c.args.self.now (record { owner = f.owner; space = f.space; chunks = f.chunks.items })
-    c.place_of-place.result c.index.result.now c.in-Some.greater c.args.total c.args.may_enlarge
+    c.index_of-index.result c.index.result.now c.in-Some.greater c.args.total c.args.may_enlarge
 grown c at_ =
     grows_there c.args.self.now _ _ _ _ c.in-Some.greater c.args.total c.args.may_enlarge c.requires.kept at_
     c.if-total-chunk.false (sym c.reaching.ensures ∙ c.in-Some.is)

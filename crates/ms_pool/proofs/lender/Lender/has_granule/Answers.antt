@@ -1,4 +1,4 @@
-use Rattle.ms_pool.proofs.maps.PlaceLemmas.{granule_there}
+use Rattle.ms_pool.proofs.maps.CellLemmas.{granule_there}
 use Rattle.ms_pool.proofs.lender.Lender.has_granule.Goals as goal
 
 pub returns : goal.returns

@@ -2,8 +2,8 @@ use Rattle.std.proofs.Common.{refl, ◌∙◌, arith}
 use Rattle.std.proofs.lemmas.List.{length-set}
 use Rattle.ms_pool.specs.Keeping.{ledger_of}
 use Rattle.ms_pool.specs.Ledger.{state_in}
-use Rattle.ms_pool.specs.Mapping.{place_in}
-use Rattle.ms_pool.proofs.maps.RootMapLemmas.{map_is, one_more_place}
+use Rattle.ms_pool.specs.Mapping.{cell_in}
+use Rattle.ms_pool.proofs.maps.RootMapLemmas.{map_is, one_more_cell}
 use Rattle.ms_pool.proofs.lender.Lender.root_map.Goals as goal
 
 pub loop-number-init : goal.loop-number-init
@@ -12,11 +12,11 @@ loop-number-init c = record { root = refl; full = refl; told = λ k h. absurd (o
 pub loop-number-preserved : goal.loop-number-preserved
 loop-number-preserved c = record {
   root = c.loop-number.invariant.root;
-  full = length-set c.loop-number.map.places c.loop-number.number c.place_in.result ∙ c.loop-number.invariant.full;
-  told = one_more_place (place_in (state_in c.args.space (ledger_of c.args.self.now)) c.args.root)
-      c.loop-number.map.places c.loop-number.number c.place_in.result
+  full = length-set c.loop-number.map.cells c.loop-number.number c.cell_in.result ∙ c.loop-number.invariant.full;
+  told = one_more_cell (cell_in (state_in c.args.space (ledger_of c.args.self.now)) c.args.root)
+      c.loop-number.map.cells c.loop-number.number c.cell_in.result
       (omega (arith, c.loop-number.invariant.full, c.loop-number-test.true))
-      c.place_in.ensures c.loop-number.invariant.told;
+      c.cell_in.ensures c.loop-number.invariant.told;
 }
 
 pub returns : goal.returns

@@ -1,4 +1,4 @@
--- What is appended is what the line has from its first digit on, up to the place.
+-- What is appended is what the line has from its first digit on, up to the index.
 use Rattle.std.proofs.Common.{arith}
 use Rattle.ms_report.proofs.DoneLemmas.{done_is_ascii, done_text}
 use Rattle.ms_report.proofs.done_line.DoneLine.push_up_to.Goals as goal

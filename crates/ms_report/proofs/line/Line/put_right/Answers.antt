@@ -17,8 +17,8 @@ pub invariant_of-self : goal.invariant_of-self
 invariant_of-self c =
     let digits = c.write_digits-start.ensures in
     let put =
-    number_put c.self.inside.bytes c.write_digits-start.new.buf c.args.places c.args.number c.self.inside.from
-    c.write_digits-start.result c.min-self-inside.result c.self.invariant c.ranges.number.fits c.requires.places
+    number_put c.self.inside.bytes c.write_digits-start.new.buf c.args.width c.args.number c.self.inside.from
+    c.write_digits-start.result c.min-self-inside.result c.self.invariant c.ranges.number.fits c.requires.width
     (room_before c.args.self.now c.self.inside.bytes c.self.inside.from 20 (sym c.self.view_is) c.self.told
     c.self.invariant.within c.requires.room) digits.start digits.before digits.written c.min-self-inside.ensures in
     put.is_line
@@ -27,12 +27,12 @@ pub returns : goal.returns
 returns c =
     let digits = c.write_digits-start.ensures in
     let put =
-    number_put c.self.inside.bytes c.write_digits-start.new.buf c.args.places c.args.number c.self.inside.from
-    c.write_digits-start.result c.min-self-inside.result c.self.invariant c.ranges.number.fits c.requires.places
+    number_put c.self.inside.bytes c.write_digits-start.new.buf c.args.width c.args.number c.self.inside.from
+    c.write_digits-start.result c.min-self-inside.result c.self.invariant c.ranges.number.fits c.requires.width
     (room_before c.args.self.now c.self.inside.bytes c.self.inside.from 20 (sym c.self.view_is) c.self.told
     c.self.invariant.within c.requires.room) digits.start digits.before digits.written c.min-self-inside.ensures in
     record {
-      written = put.written ∙ ap (λ later. right_in c.args.places (decimal c.args.number) ++ later) c.self.view_is;
+      written = put.written ∙ ap (λ later. right_in c.args.width (decimal c.args.number) ++ later) c.self.view_is;
       near = omega (
         arith,
         put.near,
