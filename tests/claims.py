@@ -1,4 +1,5 @@
 """What a test is, and what it says where it finds the program wrong."""
+import sys
 from typing import Callable, NamedTuple
 
 
@@ -16,6 +17,18 @@ class Wrong(Exception):
 
 class Skipped(Exception):
     """The test needs a tool that isn't here; its text names the tool."""
+
+
+def run_alone(tests):
+    """Runs tests that need no program, prints what comes of each, and ends with status 1 where one fails."""
+    failed = 0
+    for test in tests:
+        try:
+            print(f"ok: {test.name}: {test.function(None)}")
+        except Wrong as wrong:
+            print(f"FAILED: {test.name}: {wrong}")
+            failed += 1
+    sys.exit(failed != 0)
 
 
 def expect(holds, *facts):

@@ -10,7 +10,7 @@ import re
 import shlex
 import sys
 
-from claims import Test, Wrong, expect
+from claims import Test, Wrong, expect, run_alone
 
 ROOT = os.path.dirname(os.path.dirname(os.path.abspath(__file__)))
 PROMISES = "docs/PROMISES.md"
@@ -345,15 +345,7 @@ def main(words):
         with open(os.path.join(ROOT, PROMISES), "w", encoding="utf-8") as file:
             file.write(text)
         return
-    failed = 0
-    for test in tests():
-        if test.function is not is_run:
-            try:
-                print(f"ok: {test.name}: {test.function(None)}")
-            except Wrong as wrong:
-                print(f"FAILED: {test.name}: {wrong}")
-                failed += 1
-    sys.exit(failed != 0)
+    run_alone(test for test in tests() if test.function is not is_run)
 
 
 if __name__ == "__main__":

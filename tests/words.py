@@ -6,9 +6,8 @@ say of a function that it tells, where it returns.
 import functools
 import os
 import re
-import sys
 
-from claims import Test, Wrong, expect
+from claims import Test, expect, run_alone
 
 ROOT = os.path.dirname(os.path.dirname(os.path.abspath(__file__)))
 STYLE = "docs/STYLE.md"
@@ -153,16 +152,5 @@ def tests():
     yield Test("words: a function returns, and doesn't tell", functions_return)
 
 
-def main():
-    failed = 0
-    for test in tests():
-        try:
-            print(f"ok: {test.name}: {test.function(None)}")
-        except Wrong as wrong:
-            print(f"FAILED: {test.name}: {wrong}")
-            failed += 1
-    sys.exit(failed != 0)
-
-
 if __name__ == "__main__":
-    main()
+    run_alone(tests())
