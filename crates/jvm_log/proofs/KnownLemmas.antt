@@ -24,7 +24,7 @@ asks_none thread old new same q = rw same (update_self (request_of old) thread q
 -- Loaders are those that were, and have no block more.
 pub same_is : (old new : Machine) → loaders_in new ≡ loaders_in old → Same (loaders_in old) (loaders_in new)
 same_is old new same =
-    subst (λ (its : Loaders). Same (loaders_in old) its) (sym same) (record { loaders = λ q. refl; owners = λ q. refl })
+    subst (λ (its : Loaders). Same (loaders_in old) its) (sym same) (record { loaders = λ q. refl; owners = λ q. refl; births = refl })
 
 pub counts_none : (arena : ℕ) (command : Option Command) (old new : Loaders) → command ≡ None → Same old new → Counts arena command old new
 counts_none arena command old new none same = subst (λ (c : Option Command). Counts arena c old new) (sym none) same

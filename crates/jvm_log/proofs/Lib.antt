@@ -6,3 +6,4 @@ pub mod KnownLemmas
 pub mod TakingLemmas
 pub mod HearingLemmas
 pub mod ReadingLemmas
+pub mod FollowingLemmas

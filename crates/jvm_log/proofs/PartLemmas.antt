@@ -1,6 +1,6 @@
 -- Parts read from the front of a text: what the library's searches give, in the words of `Parts`.
 -- Used by the functions of `parts`.
-use Rattle.std.proofs.Common.{◌≡◌, ℕ, ◌+◌, ◌<◌, ◌^◌, true, false, nat_eq, List, length, take, drop, Option, Some, None, refl, sym, ◌∙◌, ap, ◌*◌, ◌≤◌, [], get_or, ltb, arith, rules}
+use Rattle.std.proofs.Common.{◌≡◌, ℕ, ◌+◌, ◌<◌, ◌^◌, true, false, nat_eq, List, length, take, drop, Option, Some, None, refl, sym, ◌∙◌, ap, ◌*◌, get_or, arith}
 use Rattle.std.specs.Prelude.{MatchOption, SomeIff}
 use Rattle.std.proofs.lemmas.Bool.{le-ltb, lt-ltb}
 use Rattle.std.proofs.Math.Seq.{drop-cons, drop-length}

@@ -1,6 +1,6 @@
 -- A line of the log is taken in, between steps that change nothing that is known but the lines held back. Used by
 -- `take_in` of `machine`.
-use Rattle.std.proofs.Common.{◌≡◌, ℕ, List, Bool, ap, subst, sym}
+use Rattle.std.proofs.Common.{◌≡◌, List, Bool, ap, subst, sym}
 use Rattle.ms_trace.specs.declared.trace.Command.{Command}
 use Rattle.jvm_log.specs.declared.event.Said.{Said}
 use Rattle.jvm_log.specs.declared.machine.Machine.{Machine}

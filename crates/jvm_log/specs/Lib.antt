@@ -11,3 +11,4 @@ pub mod Giving
 pub mod Asking
 pub mod Living
 pub mod Lying
+pub mod Following

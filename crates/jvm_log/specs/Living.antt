@@ -1,5 +1,5 @@
 -- Which loaders live after a line of the log, and whose their arenas are.
-use Rattle.std.specs.Prelude.{◌≡◌, ◌⊎◌, ◌+◌, ℕ, Bool, true, false, List, Option, Some, None, nat_eq, slice_get, slice_set}
+use Rattle.std.specs.Prelude.{◌≡◌, ◌⊎◌, ◌+◌, ◌%◌, ◌^◌, ℕ, Bool, true, false, List, Option, Some, None, nat_eq, slice_get, slice_set}
 use Rattle.std.specs.Map.{update}
 use Rattle.ms_trace.specs.declared.trace.Command.{Command}
 use Rattle.jvm_log.specs.declared.event.Event.{Event}
@@ -11,6 +11,7 @@ use Rattle.jvm_log.specs.Known.{Known, Life, Loaders}
 pub record Same (old new : Loaders) : Type 0 where
   pub loaders : (q : ℕ) → new.loader_at q ≡ old.loader_at q
   pub owners : (q : ℕ) → new.owner_at q ≡ old.owner_at q
+  pub births : new.births ≡ old.births
 
 -- Where a loader dies its arenas are nobody's, and its name is free.
 abbrev pub without : (ℕ → Option ℕ) → Option Life → ℕ → Option ℕ
@@ -25,6 +26,7 @@ pub record Dies (loader : ℕ) (old new : Loaders) : Type 0 where
   pub loaders : (q : ℕ) → new.loader_at q ≡ update nat_eq old.loader_at loader None q
   pub owners : (q : ℕ) → new.owner_at q ≡ without old.owner_at (old.loader_at loader) q
   pub used : new.used ≡ freed old.used (old.loader_at loader)
+  pub births : new.births ≡ old.births
 
 -- A loader lives from then on at its address, with its arenas, no block so far, and a name that was free.
 abbrev pub newborn : ℕ → ℕ → ℕ → ℕ → Life
@@ -35,6 +37,7 @@ pub record Lives (loader arena class_arena : ℕ) (old new : Loaders) : Type 0 w
   pub name : ℕ
   pub free : slice_get old.used name ≡ Some false
   pub taken : new.used ≡ slice_set old.used name true
+  pub births : new.births ≡ (old.births + 1) % 2 ^ 64
   pub loaders : (q : ℕ) → new.loader_at q ≡ update nat_eq old.loader_at loader (Some (newborn old.births name arena class_arena)) q
   pub owners : (q : ℕ) → new.owner_at q ≡ update nat_eq (update nat_eq old.owner_at arena (Some loader)) class_arena (Some loader) q
 
@@ -54,6 +57,7 @@ pub record IsCounted (arena : ℕ) (old new : Loaders) : Type 0 where
   pub lives : old.loader_at loader ≡ Some life
   pub loaders : (q : ℕ) → new.loader_at q ≡ update nat_eq old.loader_at loader (Some (record life { next = life.next + 1 })) q
   pub owners : (q : ℕ) → new.owner_at q ≡ old.owner_at q
+  pub births : new.births ≡ old.births
 
 abbrev pub Counts : ℕ → Option Command → Loaders → Loaders → Type 0
 Counts arena None old new = Same old new

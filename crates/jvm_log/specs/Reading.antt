@@ -1,6 +1,6 @@
 -- What a line of the log says: the head of a line, and each form of a message, part by part. After
 -- the messages of HotSpot 17's metaspace, of its class loaders' data and of its collections.
-use Rattle.std.specs.Prelude.{ℕ, Bool, List, Option, Some, None, codes, nat_eq, if◌then◌else◌}
+use Rattle.std.specs.Prelude.{ℕ, List, Option, Some, None, codes, nat_eq, if◌then◌else◌}
 use Rattle.std.specs.List.{ends_with, starts_with}
 use Rattle.std.specs.Option.{option_or}
 use Rattle.ms_base.specs.declared.kind.Kind.{Kind}

@@ -5,12 +5,13 @@
 //! A request's line stands where its first step in the pool stood, which is under one lock for all
 //! threads, or else where its answer stood: so lines are held back until what stands before them is
 //! known. Takes memory for what lives, and for the lines held back.
-ghost use Rattle.std.specs.Prelude.{◌≡◌, ◌∷◌, [], ℕ, true, false, None, Some, All, IfOk, IfSome, IfNone, OnOk, map, nat_eq};
+ghost use Rattle.std.specs.Prelude.{◌≡◌, ◌∷◌, [], ℕ, true, false, None, Some, All, IfOk, IfSome, IfNone, OnOk, length, ◌≤◌, map, nat_eq};
 ghost use Rattle.std.specs.Map.{lookup, update};
 ghost use Rattle.std.specs.Option.{option_map};
 ghost use Rattle.jvm_log.specs.Asking.{Asking, asked, passed};
+ghost use Rattle.jvm_log.specs.Following.{HandsOut, KnowsNothing};
 ghost use Rattle.jvm_log.specs.Giving.{Adds, Answers, Bears, Gives, Opens, freeing, given, plain, reporting, unloading};
-ghost use Rattle.jvm_log.specs.Known.{blocks_in, known_in, loaders_in, owner_of, request_of};
+ghost use Rattle.jvm_log.specs.Known.{blocks_in, known_in, loaders_in, owner_of, request_of, waits};
 ghost use Rattle.jvm_log.specs.Living.{Comes, Counts, Dies, IsBorn, Living, Same};
 ghost use Rattle.jvm_log.specs.Lying.{Clears, IsTaken, Lays, Lying, Tells, answer_as, laid_in};
 ghost use Rattle.jvm_log.specs.Waits.{UsesNames, acts_in, is_closed, names_in, waiting_in};
@@ -65,8 +66,7 @@ pub struct Machine {
 impl Machine {
     /// Makes a machine that knows nothing. With `reports` it asks for a report after each collection.
     pub fn new(alloc: Global, reports: bool) -> Result<Machine, AllocError>
-        ensures waits { IfOk result (λ machine. waiting_in machine ≡ []) }
-        ensures names { IfOk result (λ machine. All (λ used. used ≡ false) (names_in machine)) }
+        ensures { IfOk result (λ machine. KnowsNothing reports (known_in machine)) }
     {
         Ok(Machine {
             names: Names::new(alloc)?,
@@ -106,6 +106,7 @@ impl Machine {
         ensures loaders { OnOk result (Living said.thread said.event (known_in self.old) (loaders_in self.new)) }
         ensures blocks { OnOk result (Lying said.thread said.event (known_in self.old) (blocks_in self.new)) }
         ensures names { OnOk result (UsesNames self.old self.new) }
+        ensures reports { OnOk result ((known_in self.new).reports ≡ (known_in self.old).reports) }
     {
         let late = self.begin(said.event);
         let trouble = self.heed(said)?;
@@ -150,6 +151,7 @@ impl Machine {
         ensures loaders { OnOk result (Living said.thread said.event (known_in self.old) (loaders_in self.new)) }
         ensures blocks { OnOk result (Lying said.thread said.event (known_in self.old) (blocks_in self.new)) }
         ensures names { OnOk result (UsesNames self.old self.new) }
+        ensures reports { self.new.reports ≡ self.old.reports }
     {
         let thread = said.thread;
         match said.event {
@@ -192,6 +194,7 @@ impl Machine {
         ensures requests { self.new.requests ≡ self.old.requests }
         ensures blocks { blocks_in self.new ≡ blocks_in self.old }
         ensures names { OnOk result (UsesNames self.old self.new) }
+        ensures reports { self.new.reports ≡ self.old.reports }
     {
         if !self.loaders.contains_key(&loader) {
             return self.open(loader, arena, class_arena);
@@ -214,6 +217,7 @@ impl Machine {
         ensures requests { self.new.requests ≡ self.old.requests }
         ensures blocks { blocks_in self.new ≡ blocks_in self.old }
         ensures names { OnOk result (UsesNames self.old self.new) }
+        ensures reports { self.new.reports ≡ self.old.reports }
     {
         let Some(name) = self.names.take() else {
             return Ok(Some(Trouble::NoName));
@@ -270,6 +274,7 @@ impl Machine {
         ensures requests { self.new.requests ≡ self.old.requests }
         ensures blocks { blocks_in self.new ≡ blocks_in self.old }
         ensures names { OnOk result (UsesNames self.old self.new) }
+        ensures reports { self.new.reports ≡ self.old.reports }
     {
         let untold = self.untold(loader);
         self.set_kind(loader, Kind::Standard);
@@ -299,6 +304,7 @@ impl Machine {
         ensures loaders { loaders_in self.new ≡ loaders_in self.old }
         ensures no_line { waiting_in self.new ≡ waiting_in self.old }
         ensures names { names_in self.new ≡ names_in self.old }
+        ensures reports { self.new.reports ≡ self.old.reports }
     {
         self.asked = true;
         let trouble = self.forget(thread);
@@ -347,6 +353,7 @@ impl Machine {
             → request_of self.new q ≡ update nat_eq (request_of self.old) thread None q) }
         ensures no_line { waiting_in self.new ≡ waiting_in self.old }
         ensures names { names_in self.new ≡ names_in self.old }
+        ensures reports { self.new.reports ≡ self.old.reports }
     {
         Ok(match self.forget(thread) {
             Some(_) => None,
@@ -362,6 +369,7 @@ impl Machine {
             (option_map (passed self.old.held) (request_of self.old thread)) q) }
         ensures no_line { OnOk result (waiting_in self.new ≡ waiting_in self.old) }
         ensures names { names_in self.new ≡ names_in self.old }
+        ensures reports { self.new.reports ≡ self.old.reports }
     {
         if let Some(request) = self.requests.get_mut(&thread)
             && request.line.is_none()
@@ -384,6 +392,7 @@ impl Machine {
         ensures blocks { blocks_in self.new ≡ blocks_in self.old }
         ensures acts { acts_in self.new ≡ acts_in self.old }
         ensures names { names_in self.new ≡ names_in self.old }
+        ensures reports { self.new.reports ≡ self.old.reports }
     {
         if let Some(request) = self.requests.get(&thread)
             && let Some(loader) = self.arenas.get(&request.arena)
@@ -412,6 +421,7 @@ impl Machine {
             → request_of self.new q ≡ update nat_eq (request_of self.old) thread None q) }
         ensures acts { OnOk result (acts_in self.new ≡ acts_in self.old) }
         ensures names { names_in self.new ≡ names_in self.old }
+        ensures reports { self.new.reports ≡ self.old.reports }
     {
         let Some(request) = self.requests.remove(&thread) else {
             return Ok(Some(Trouble::Unasked));
@@ -444,6 +454,7 @@ impl Machine {
         ensures blocks { OnOk result (Tells thread address (blocks_in self.old) (blocks_in self.new)) }
         ensures no_line { waiting_in self.new ≡ waiting_in self.old }
         ensures names { names_in self.new ≡ names_in self.old }
+        ensures reports { self.new.reports ≡ self.old.reports }
     {
         if let Some(Answer::FromFreeBlocks(block)) = self.take_answer(thread, address) {
             self.blocks.insert(address, block)?;
@@ -490,6 +501,7 @@ impl Machine {
             (blocks_in self.old) (blocks_in self.new)) }
         ensures acts { OnOk result (acts_in self.new ≡ acts_in self.old) }
         ensures names { names_in self.new ≡ names_in self.old }
+        ensures reports { self.new.reports ≡ self.old.reports }
     {
         let Some(loader) = self.arenas.get(&arena) else {
             return Ok(Some(Trouble::UnknownArena));
@@ -515,6 +527,7 @@ impl Machine {
         ensures blocks { blocks_in self.new ≡ blocks_in self.old }
         ensures acts { acts_in self.new ≡ acts_in self.old }
         ensures names { names_in self.new ≡ names_in self.old }
+        ensures reports { self.new.reports ≡ self.old.reports }
     {
         if let Some(block) = self.blocks.get(&address) {
             let loader = block.loader;
@@ -531,6 +544,7 @@ impl Machine {
         ensures blocks { blocks_in self.new ≡ blocks_in self.old }
         ensures acts { OnOk result (acts_in self.new ≡ acts_in self.old) }
         ensures names { names_in self.new ≡ names_in self.old }
+        ensures reports { self.new.reports ≡ self.old.reports }
     {
         if self.reports {
             self.held.add(Placed::from(Command::Report))?;
@@ -542,8 +556,7 @@ impl Machine {
     /// shows to be wrong.
     pub fn finish(&mut self) -> Option<Trouble>
         ensures closed { is_closed self.new ≡ true }
-        ensures lines { waiting_in self.new ≡ waiting_in self.old }
-        ensures names { names_in self.new ≡ names_in self.old }
+        ensures keeps { HandsOut [] (known_in self.old) (known_in self.new) }
     {
         self.held.close();
         if !self.requests.is_empty() {
@@ -568,14 +581,19 @@ impl Machine {
         false
     }
 
+    /// Returns how many lines are held back: those that wait, and those that may give nothing.
+    pub fn held_back(&self) -> usize
+        ensures { length (waits (known_in self.now)) ≤ result }
+    {
+        self.held.len()
+    }
+
     /// Takes the next line of the trace, if it is known so far.
     pub fn next_line(&mut self) -> Option<Placed>
-        ensures first { IfSome result
-            (λ line. waiting_in self.old ≡ line.command ∷ waiting_in self.new) }
-        ensures none { IfNone result (waiting_in self.new ≡ waiting_in self.old) }
+        ensures gives { IfSome result (λ line. HandsOut (line.command ∷ []) (known_in self.old) (known_in self.new)) }
+        ensures none { IfNone result (HandsOut [] (known_in self.old) (known_in self.new)) }
         ensures all { is_closed self.old ≡ true → IfNone result (waiting_in self.new ≡ []) }
         ensures closed { is_closed self.new ≡ is_closed self.old }
-        ensures names { names_in self.new ≡ names_in self.old }
     {
         self.held.next()
     }

@@ -1,32 +1,36 @@
 -- A log that is heard to its end is of no other release, and takes a conversion to its end. Used by `convert`.
-use Rattle.std.proofs.Common.{ℕ, ◌+◌, List, [], ◌∷◌, Option, Some, None, Result, Ok, Err}
+use Rattle.std.proofs.Common.{ℕ, ◌+◌, List, [], ◌∷◌, Option, Some, None, Result, Ok, Err, ◌∙◌}
 use Rattle.std.specs.List.{AllByRecursion}
 use Rattle.std.specs.Prelude.{IfSome, OnOk}
 use Rattle.std.proofs.Common.{subst, sym}
 use Rattle.std.proofs.lemmas.List.Elements.{All-from_recursion}
 use Rattle.jvm_log.specs.declared.event.Said.{Said}
+use Rattle.jvm_log.specs.Following.{one_said, said_by}
 use Rattle.jvm_log.specs.Hearing.{AreLines, HearsLine, HearsLines, HearsLog, trimmed}
 use Rattle.jvm_log.specs.Reading.{said_in}
 use Rattle.metalog.specs.declared.conversion.Conversion.{Conversion}
-use Rattle.metalog.specs.UnderWay.{GoesOn, Hears}
+use Rattle.metalog.specs.declared.options.Options.{Options}
+use Rattle.metalog.specs.Trace.{Converts, WritesTrace}
+use Rattle.metalog.specs.UnderWay.{Begins, GoesOn, Hears, IsUnderWay}
 use Rattle.metalog.specs.Release.{IsNoOther, LineIsOfJdk17, LogIsOfJdk17}
+use Rattle.metalog.proofs.UnderWayLemmas.{goes_nowhere, goes_on}
 
 -- What each line of a log says shows no other release, and takes a conversion further.
 abbrev heard : {E : Type 0} → Conversion E × Option (List ℕ) → ℕ → List ℕ → Said → Conversion E × Option (List ℕ) → Type 0
 heard old number line said new = Hears old said new
 
 line_is : {E : Type 0} (old new : Conversion E × Option (List ℕ)) (number : ℕ) (line : List ℕ) (said : Option Said)
-    → HearsLine heard old number line said new → IsNoOther said × GoesOn old new
-line_is old new number line None same = (tt, subst (GoesOn old) (sym same) (λ start come. come))
+    → HearsLine heard old number line said new → IsNoOther said × GoesOn (one_said said) old new
+line_is old new number line None same = (tt, subst (GoesOn [] old) (sym same) (goes_nowhere old))
 line_is old new number line (Some said) hears = hears
 
 lines_are : {E : Type 0} (old new : Conversion E × Option (List ℕ)) (number : ℕ) (lines : List (List ℕ))
-    → HearsLines heard old number lines new → AllByRecursion LineIsOfJdk17 lines × GoesOn old new
-lines_are old new number [] same = (tt, subst (GoesOn old) (sym same) (λ start come. come))
+    → HearsLines heard old number lines new → AllByRecursion LineIsOfJdk17 lines × GoesOn (said_by lines) old new
+lines_are old new number [] same = (tt, subst (GoesOn [] old) (sym same) (goes_nowhere old))
 lines_are old new number (line ∷ lines) (mid, first, rest) =
     let here = line_is old mid number (trimmed line) (said_in (trimmed line)) first in
     let then = lines_are mid new (number + 1) lines rest in
-    ((here.0, then.0), λ start come. then.1 start (here.1 start come))
+    ((here.0, then.0), goes_on (one_said (said_in (trimmed line))) (said_by lines) old mid new here.1 then.1)
 
 known_is : (text : Option (List ℕ)) (lines : List (List ℕ)) → IfSome text (λ bytes. AreLines bytes lines)
     → AllByRecursion LineIsOfJdk17 lines → IfSome text LogIsOfJdk17
@@ -34,10 +38,21 @@ known_is None lines are all = tt
 known_is (Some text) lines are all = (lines, are, All-from_recursion LineIsOfJdk17 lines all)
 
 pub log_is : {E : Type 0} (old new : Conversion E × Option (List ℕ)) (text : Option (List ℕ)) → HearsLog heard old text new
-    → IfSome text LogIsOfJdk17 × GoesOn old new
-log_is old new text (lines, are, hears) =
-    let all = lines_are old new 1 lines hears in
-    (known_is text lines are all.0, all.1)
+    → IfSome text LogIsOfJdk17
+log_is old new text (lines, are, hears) = known_is text lines are (lines_are old new 1 lines hears).0
+
+-- From the first line to the last.
+pub converts : {E : Type 0} (options : Options) (old new : Conversion E) (log start bytes after : Option (List ℕ)) → Begins options old
+    → HearsLog heard (old, start) log (new, bytes)
+    → ((start : Option (List ℕ)) (said : List Said) → IsUnderWay start said (new, bytes) → WritesTrace new.options said start after)
+    → Converts options log start after
+converts options old new log start bytes after begins (lines, are, hears) writes =
+    let goes = (lines_are (old, start) (new, bytes) 1 lines hears).1 in (
+      lines,
+      are,
+      subst (λ (its : Options). WritesTrace its (said_by lines) start after) (goes.options ∙ begins.options_are)
+          (writes start (said_by lines) (goes.comes start [] (begins.comes start))),
+    )
 
 -- What holds at all holds where a call succeeds.
 pub on_success : {T E : Type 0} (result : Result T E) (P : Type 0) → P → OnOk result P

@@ -13,13 +13,15 @@ use Rattle.ms_trace.specs.declared.trace.Command.{Command}
 use Rattle.ms_trace.specs.declared.trace.Line.{Line}
 use Rattle.ms_trace.specs.Spelling.{IsValid, ReadsAs, rises_above, spelling_of, text_from}
 use Rattle.ms_trace.proofs.PrintingLemmas.{printed_reads}
+use Rattle.jvm_log.specs.declared.event.Said.{Said}
 use Rattle.jvm_log.specs.declared.placed.Placed.{Placed}
 use Rattle.jvm_log.specs.NameActs.{TakesFree, name_acts}
 use Rattle.jvm_log.proofs.NameLemmas.{block_names_none, takes_before}
 use Rattle.metalog.specs.Joining.{IsJoined, asks_for, forgotten, is_freed_in}
 use Rattle.metalog.specs.Joining.IsJoined.{none, alone, taken_in}
 use Rattle.metalog.specs.Output.{GoesOut, line_of}
-use Rattle.metalog.specs.Trace.{OpensFree, ReadsOneALine, WritesLines, WritesTrace, commands_of, numbered}
+use Rattle.metalog.specs.Trace.{AreGiven, OpensFree, ReadsOneALine, WritesLines, WritesTrace, commands_of, last_report, numbered}
+use Rattle.metalog.specs.declared.options.Options.{Options}
 
 -- What follows from a success.
 pub ok_map : {T E : Type 0} (result : Result T E) (P Q : Type 0) → (P → Q) → OnOk result P → OnOk result Q
@@ -74,13 +76,15 @@ line_goes start old new kept left commands command goes valid lines = record {
 }
 
 -- Where the text that is kept goes out, all lines have gone out, and the output has grown by a trace.
-pub trace_is : (start old new : Option (List ℕ)) (kept : List ℕ) (commands : List Command) (used : List Bool)
-    → WritesLines start old kept commands → OpensFree commands used → Appends old new kept → WritesTrace start new
-trace_is start old new kept commands used lines opens written = record {
+pub trace_is : (options : Options) (said : List Said) (start old new : Option (List ℕ)) (kept : List ℕ) (commands : List Command) (used : List Bool)
+    → WritesLines start old kept commands → AreGiven options said commands (last_report options.reports) → OpensFree commands used
+    → Appends old new kept → WritesTrace options said start new
+trace_is options said start old new kept commands used lines are opens written = record {
   commands = commands;
   text = lines.out ++ kept;
   written = Appends-trans start old new lines.out kept lines.written written;
   reads = subst (λ text. ReadsOneALine text commands) (sym lines.in_order) (lines_read commands lines.valid);
+  are = are;
   used = used;
   opens = opens;
 }

@@ -4,19 +4,23 @@ use Rattle.std.proofs.Common.{◌≡◌, ℕ, Bool, true, false, true≢false, L
 use Rattle.std.specs.Prelude.{flat_map}
 use Rattle.std.specs.Option.{is_some}
 use Rattle.std.specs.Io.KnownBytes.{Appends}
-use Rattle.std.specs.List.{All}
 use Rattle.std.proofs.lemmas.Grind.{flat_map-append}
 use Rattle.ms_trace.specs.declared.trace.Command.{Command}
 use Rattle.ms_trace.specs.declared.trace.Command.TheVariants.{Report}
+use Rattle.jvm_log.specs.declared.event.Said.{Said}
 use Rattle.jvm_log.specs.declared.machine.Machine.{Machine}
 use Rattle.jvm_log.specs.declared.placed.Placed.{Placed}
+use Rattle.jvm_log.specs.Following.{Follows, HandsOut, KnowsNothing, Learns}
+use Rattle.jvm_log.specs.Following.Follows.{nothing, heard, gave}
+use Rattle.jvm_log.specs.Known.{Known, known_in, waits}
 use Rattle.jvm_log.specs.NameActs.{TakesFree, name_acts}
 use Rattle.jvm_log.specs.Waits.{UsesNames, names_in, waiting_in}
-use Rattle.jvm_log.proofs.NameLemmas.{takes-append, uses_quiet}
+use Rattle.jvm_log.proofs.NameLemmas.{takes-append}
 use Rattle.metalog.specs.Joining.{IsJoined, forgotten}
-use Rattle.metalog.specs.Trace.{OpensFree, WritesLines, WritesTrace, commands_of}
-use Rattle.metalog.specs.UnderWay.{GoesOn, HandsOn, HasEnded, IsUnderWay}
+use Rattle.metalog.specs.Trace.{AreJoined, OpensFree, WritesLines, WritesTrace, asks_reports, commands_of, last_report}
+use Rattle.metalog.specs.UnderWay.{GoesOn, HandsOn, HasCome, HasEnded, IsUnderWay}
 use Rattle.metalog.specs.declared.conversion.Conversion.{Conversion}
+use Rattle.metalog.specs.declared.options.Options.{Options}
 use Rattle.metalog.specs.declared.output.Output.{Output}
 use Rattle.metalog.proofs.TraceLemmas.{commands-append, forgotten_commands, joined_acts, no_line, opens_first, opens_quiet, opens_same, trace_is}
 
@@ -45,64 +49,147 @@ opens_more commands kept waiting more acts used new are then (free, none, takes)
     )
 
 -- A machine that knows nothing is where a trace begins.
-pub begins : {E : Type 0} (start : Option (List ℕ)) (conversion : Conversion E) → waiting_in conversion.machine ≡ []
-    → All (λ is_used. is_used ≡ false) (names_in conversion.machine) → conversion.kept.items ≡ [] → conversion.text.text.items ≡ []
-    → IsUnderWay start (conversion, start)
-begins start conversion waits free kept text = record {
-  commands = [];
-  lines = subst (λ left. WritesLines start start left []) (sym text) (no_line start);
-  alone = λ _. kept;
+pub begins : {E : Type 0} (start : Option (List ℕ)) (conversion : Conversion E)
+    → KnowsNothing (asks_reports conversion.options.reports) (known_in conversion.machine) → conversion.kept.items ≡ []
+    → conversion.text.text.items ≡ [] → IsUnderWay start [] (conversion, start)
+begins start conversion knows kept text =
+    let known : Known = known_in conversion.machine in
+    record {
+      commands = [];
+      lines = subst (λ left. WritesLines start start left []) (sym text) (no_line start);
+      alone = λ _. kept;
+      apart = λ _. refl;
+      follows =
+          subst (λ (lines : List Placed). Follows (asks_reports conversion.options.reports) [] (commands_of lines) known) (sym kept)
+          (nothing known knows);
+      opens =
+          subst (λ (lines : List Placed). OpensFree (commands_of lines ++ waits known) known.loaders.used) (sym kept)
+          (subst (λ (waiting : List Command). OpensFree waiting known.loaders.used) (sym knows.waiting)
+          (known.loaders.used, knows.names, refl));
+    }
+
+-- What came before a change that leaves options, lines and text.
+pub same_lines : {E : Type 0} (start bytes : Option (List ℕ)) (said : List Said) (known : Known) (old new : Conversion E)
+    → new.options ≡ old.options → new.kept ≡ old.kept → new.text ≡ old.text → HasCome start said known (old, bytes)
+    → HasCome start said known (new, bytes)
+same_lines start bytes said known old new options kept text come =
+    let lines : old.kept.items ≡ new.kept.items = ap (λ k. k.items) (sym kept) in
+    record {
+      commands = come.commands;
+      lines = subst (λ (t : Output). WritesLines start bytes t.text.items come.commands) (sym text) come.lines;
+      alone = λ none. sym lines ∙ come.alone (ap (λ (o : Options). o.merge) (sym options) ∙ none);
+      apart = λ some. come.apart (ap (λ (o : Options). is_some o.merge) (sym options) ∙ some);
+      follows =
+          subst (λ (o : Options). Follows (asks_reports o.reports) said (come.commands ++ commands_of new.kept.items) known) (sym options)
+          (subst (λ (kept : List Placed). Follows (asks_reports old.options.reports) said (come.commands ++ commands_of kept) known) lines
+          come.follows);
+      opens =
+          subst (λ (kept : List Placed). OpensFree (come.commands ++ commands_of kept ++ waits known) known.loaders.used) lines come.opens;
+    }
+
+-- What a line says becomes known.
+hears_line : {E : Type 0} (start bytes : Option (List ℕ)) (said : List Said) (line : Said) (old : Conversion E) (new : Machine)
+    → Learns line (known_in old.machine) (known_in new) → UsesNames old.machine new
+    → HasCome start said (known_in old.machine) (old, bytes) → HasCome start (said ++ line ∷ []) (known_in new) (old, bytes)
+hears_line start bytes said line old new learns (acts, are, then) come = record {
+  commands = come.commands;
+  lines = come.lines;
+  alone = come.alone;
+  apart = come.apart;
+  follows = heard said line (come.commands ++ commands_of old.kept.items) (known_in old.machine) (known_in new) come.follows learns;
   opens =
-      subst (λ (lines : List Placed). OpensFree (commands_of lines ++ waiting_in conversion.machine) (names_in conversion.machine)) (sym kept)
-      (subst (λ (waiting : List Command). OpensFree waiting (names_in conversion.machine)) (sym waits)
-      (names_in conversion.machine, free, refl));
+      opens_more come.commands (commands_of old.kept.items) (waiting_in old.machine) (waiting_in new) acts (names_in old.machine)
+      (names_in new) are then come.opens;
 }
 
--- What the machine takes in.
-pub takes_in : {E : Type 0} (old new : Conversion E) (bytes : Option (List ℕ)) → UsesNames old.machine new.machine
-    → new.options ≡ old.options → new.kept ≡ old.kept → new.text ≡ old.text → GoesOn (old, bytes) (new, bytes)
-takes_in old new bytes (acts, are, then) options kept text = λ start come. record {
-  commands = come.commands;
-  lines = subst (λ (t : _). WritesLines start bytes t.text.items come.commands) (sym text) come.lines;
-  alone = λ no. ap (λ k. k.items) kept ∙ come.alone (ap (λ o. o.merge) (sym options) ∙ no);
-  opens =
-      subst (λ (lines : List Placed). OpensFree (come.commands ++ commands_of lines ++ waiting_in new.machine) (names_in new.machine))
-      (ap (λ k. k.items) (sym kept))
-      (opens_more come.commands (commands_of old.kept.items) (waiting_in old.machine) (waiting_in new.machine) acts
-      (names_in old.machine) (names_in new.machine) are then come.opens);
+pub takes_in : {E : Type 0} (old new : Conversion E) (bytes : Option (List ℕ)) (line : Said)
+    → Learns line (known_in old.machine) (known_in new.machine) → UsesNames old.machine new.machine → new.options ≡ old.options
+    → new.kept ≡ old.kept → new.text ≡ old.text → GoesOn (line ∷ []) (old, bytes) (new, bytes)
+takes_in old new bytes line learns uses options kept text = record {
+  options = options;
+  comes = λ start said come.
+      same_lines start bytes (said ++ line ∷ []) (known_in new.machine) old new options kept text
+      (hears_line start bytes said line old new.machine learns uses come);
 }
+
+-- The first commands that wait go out: then they have come.
+hands_first : {E : Type 0} (start bytes : Option (List ℕ)) (said : List Said) (old new : Known) (state : Conversion E)
+    → HandsOut [] old new → HasCome start said old (state, bytes) → HasCome start said new (state, bytes)
+hands_first start bytes said old new state hands come =
+    let out : List Command = come.commands ++ commands_of state.kept.items in
+    let used : old.loaders.used ≡ new.loaders.used = ap (λ (known : Known). known.loaders.used) (sym hands.rest) in
+    record {
+      commands = come.commands;
+      lines = come.lines;
+      alone = come.alone;
+      apart = come.apart;
+      follows =
+          subst (λ (given : List Command). Follows (asks_reports state.options.reports) said given new) (append-nil out)
+          (gave said out [] old new come.follows hands);
+      opens =
+          subst (λ (names : List Bool). OpensFree (out ++ waits new) names) used
+          (subst (λ (waiting : List Command). OpensFree (out ++ waiting) old.loaders.used) hands.first come.opens);
+    }
 
 -- Nothing new.
-pub stays : {E : Type 0} (old new : Conversion E) (bytes : Option (List ℕ)) → waiting_in new.machine ≡ waiting_in old.machine
-    → names_in new.machine ≡ names_in old.machine → new.options ≡ old.options → new.kept ≡ old.kept → new.text ≡ old.text
-    → GoesOn (old, bytes) (new, bytes)
-stays old new bytes waits names = takes_in old new bytes (uses_quiet old.machine new.machine waits names)
+pub stays : {E : Type 0} (old new : Conversion E) (bytes : Option (List ℕ)) → HandsOut [] (known_in old.machine) (known_in new.machine)
+    → new.options ≡ old.options → new.kept ≡ old.kept → new.text ≡ old.text → GoesOn [] (old, bytes) (new, bytes)
+stays old new bytes hands options kept text = record {
+  options = options;
+  comes = λ start said come.
+      subst (λ (s : List Said). IsUnderWay start s (new, bytes)) (sym (append-nil said))
+      (same_lines start bytes said (known_in new.machine) old new options kept text
+      (hands_first start bytes said (known_in old.machine) (known_in new.machine) old hands come));
+}
 
 -- One state after another.
-pub goes_on : {E : Type 0} (old mid new : Conversion E × Option (List ℕ)) → GoesOn old mid → GoesOn mid new → GoesOn old new
-goes_on old mid new first then = λ start come. then start (first start come)
+pub goes_on : {E : Type 0} (first second : List Said) (old mid new : Conversion E × Option (List ℕ)) → GoesOn first old mid
+    → GoesOn second mid new → GoesOn (first ++ second) old new
+goes_on first second old mid new one other = record {
+  options = other.options ∙ one.options;
+  comes = λ start said come.
+      subst (λ (s : List Said). IsUnderWay start s new) (append_assoc said first second)
+      (other.comes start (said ++ first) (one.comes start said come));
+}
+
+pub goes_nowhere : {E : Type 0} (state : Conversion E × Option (List ℕ)) → GoesOn [] state state
+goes_nowhere state = record {
+  options = refl;
+  comes = λ start said come. subst (λ (s : List Said). IsUnderWay start s state) (sym (append-nil said)) come;
+}
 
 -- A command that the machine gives is handed on.
 pub gives : {E : Type 0} (old mid : Conversion E) (new : Conversion E × Option (List ℕ)) (bytes : Option (List ℕ)) (command : Command)
-    → waiting_in old.machine ≡ command ∷ waiting_in mid.machine → names_in mid.machine ≡ names_in old.machine
-    → mid.options ≡ old.options → mid.kept ≡ old.kept → mid.text ≡ old.text → HandsOn command (mid, bytes) new
-    → GoesOn (old, bytes) new
-gives old mid new bytes command gave names options kept text hands = λ start come. hands start (record {
-  commands = come.commands;
-  lines = subst (λ (t : _). WritesLines start bytes t.text.items come.commands) (sym text) come.lines;
-  alone = λ no. ap (λ k. k.items) kept ∙ come.alone (ap (λ o. o.merge) (sym options) ∙ no);
-  opens =
-      subst (λ (lines : List Placed). OpensFree (come.commands ++ commands_of lines ++ command ∷ waiting_in mid.machine) (names_in mid.machine))
-      (ap (λ k. k.items) (sym kept))
-      (subst (λ (waiting : List Command). OpensFree (come.commands ++ commands_of old.kept.items ++ waiting) (names_in mid.machine)) gave
-      (subst (λ (used : List Bool). OpensFree (come.commands ++ commands_of old.kept.items ++ waiting_in old.machine) used) (sym names)
-      come.opens));
-})
+    → HandsOut (command ∷ []) (known_in old.machine) (known_in mid.machine) → mid.options ≡ old.options → mid.kept ≡ old.kept
+    → mid.text ≡ old.text → HandsOn command (mid, bytes) new → GoesOn [] (old, bytes) new
+gives old mid new bytes command hands options kept text on = record {
+  options = on.options ∙ options;
+  comes = λ start said come.
+      subst (λ (s : List Said). IsUnderWay start s new) (sym (append-nil said))
+      (on.comes start said (known_in old.machine) hands
+      (same_lines start bytes said (known_in old.machine) old mid options kept text come));
+}
 
 -- Nothing is there where it isn't something.
 none_is : {A : Type 0} (option : Option A) → is_some option ≡ false → option ≡ None
 none_is None not = refl
 none_is (Some value) not = absurd (true≢false not)
+
+pub none_by : {A : Type 0} (option : Option A) → ((value : A) → option ≡ Some value → ⊥) → option ≡ None
+none_by None not = refl
+none_by (Some value) not = absurd (not value refl)
+
+-- The names in use where commands go out.
+names_stay : (commands : List Command) (old new : Known) → HandsOut commands old new → old.loaders.used ≡ new.loaders.used
+names_stay commands old new hands = ap (λ (known : Known). known.loaders.used) (sym hands.rest)
+
+-- What waited opens what the first command and the others open.
+opens_then : (out : List Command) (command : Command) (old new : Known) → HandsOut (command ∷ []) old new
+    → OpensFree (out ++ waits old) old.loaders.used → OpensFree ((out ++ command ∷ []) ++ waits new) new.loaders.used
+opens_then out command old new hands opens =
+    subst (λ (commands : List Command). OpensFree commands new.loaders.used) (sym (append_assoc out (command ∷ []) (waits new)))
+    (subst (λ (names : List Bool). OpensFree (out ++ command ∷ waits new) names) (names_stay (command ∷ []) old new hands)
+    (subst (λ (waiting : List Command). OpensFree (out ++ waiting) old.loaders.used) hands.first opens))
 
 -- Its line goes out, or into the text.
 pub hands_out : {E : Type 0} (old mid : Conversion E) (text : Output) (bytes after : Option (List ℕ)) (command : Command)
@@ -110,76 +197,125 @@ pub hands_out : {E : Type 0} (old mid : Conversion E) (text : Output) (bytes aft
     → ((start : Option (List ℕ)) (commands : List Command) → WritesLines start bytes mid.text.text.items commands
     → WritesLines start after text.text.items (commands ++ command ∷ []))
     → HandsOn command (old, bytes) (record mid { text = text }, after)
-hands_out {E} old mid text bytes after command is not writes = λ start come.
+hands_out {E} old mid text bytes after command is not writes =
     let machine : mid.machine ≡ old.machine = ap (λ (c : Conversion E). c.machine) is in
+    let options : mid.options ≡ old.options = ap (λ (c : Conversion E). c.options) is in
     let kept : mid.kept ≡ old.kept = ap (λ (c : Conversion E). c.kept) is in
     let was : mid.text ≡ old.text = ap (λ (c : Conversion E). c.text) is in
     let none : old.options.merge ≡ None =
-    sym (ap (λ (c : Conversion E). c.options.merge) is) ∙ none_is mid.options.merge not in
-    let empty : old.kept.items ≡ [] = come.alone none in
-    let left : mid.kept.items ≡ [] = ap (λ k. k.items) kept ∙ empty in
-    let before : OpensFree ((come.commands ++ []) ++ command ∷ waiting_in old.machine) (names_in old.machine) =
-    subst (λ (lines : List Placed). OpensFree (come.commands ++ commands_of lines ++ command ∷ waiting_in old.machine) (names_in old.machine))
-    empty come.opens in
-    let are : (come.commands ++ []) ++ command ∷ waiting_in old.machine ≡ ((come.commands ++ command ∷ []) ++ []) ++ waiting_in old.machine =
-    ap (λ (first : List Command). first ++ command ∷ waiting_in old.machine) (append-nil come.commands)
-    ∙ sym (append_assoc come.commands (command ∷ []) (waiting_in old.machine))
-    ∙ ap (λ (first : List Command). first ++ waiting_in old.machine) (sym (append-nil (come.commands ++ command ∷ []))) in
-    record {
-      commands = come.commands ++ command ∷ [];
-      lines = writes start come.commands (subst (λ (t : Output). WritesLines start bytes t.text.items come.commands) (sym was) come.lines);
-      alone = λ _. left;
-      opens =
-          subst (λ (lines : List Placed). OpensFree ((come.commands ++ command ∷ []) ++ commands_of lines ++ waiting_in mid.machine) (names_in mid.machine))
-          (sym left)
-          (subst (λ (m : Machine). OpensFree (((come.commands ++ command ∷ []) ++ []) ++ waiting_in m) (names_in m)) (sym machine)
-          (subst (λ (commands : List Command). OpensFree commands (names_in old.machine)) are before));
+    sym (ap (λ (c : Conversion E). c.options.merge) is) ∙ none_is mid.options.merge not in record {
+      options = options;
+      machine = machine;
+      comes = λ start said known hands come.
+          let empty : old.kept.items ≡ [] = come.alone none in
+          let left : mid.kept.items ≡ [] = ap (λ k. k.items) kept ∙ empty in
+          let out : come.commands ++ commands_of old.kept.items ≡ come.commands =
+          ap (λ (lines : List Placed). come.commands ++ commands_of lines) empty ∙ append-nil come.commands in
+          let then : (come.commands ++ command ∷ []) ++ [] ≡ come.commands ++ command ∷ [] = append-nil (come.commands ++ command ∷ []) in
+          record {
+            commands = come.commands ++ command ∷ [];
+            lines = writes start come.commands (subst (λ (t : Output). WritesLines start bytes t.text.items come.commands) (sym was) come.lines);
+            alone = λ _. left;
+            apart = λ some. absurd (true≢false (sym some ∙ not));
+            follows =
+                subst (λ (m : Machine). Follows (asks_reports mid.options.reports) said ((come.commands ++ command ∷ []) ++ commands_of mid.kept.items) (known_in m))
+                (sym machine)
+                (subst (λ (o : Options). Follows (asks_reports o.reports) said ((come.commands ++ command ∷ []) ++ commands_of mid.kept.items) (known_in old.machine))
+                (sym options)
+                (subst (λ (lines : List Placed). Follows (asks_reports old.options.reports) said ((come.commands ++ command ∷ []) ++ commands_of lines) (known_in old.machine))
+                (sym left)
+                (subst (λ (given : List Command). Follows (asks_reports old.options.reports) said given (known_in old.machine)) (sym then)
+                (subst (λ (given : List Command). Follows (asks_reports old.options.reports) said (given ++ command ∷ []) (known_in old.machine)) out
+                (gave said (come.commands ++ commands_of old.kept.items) (command ∷ []) known (known_in old.machine) come.follows hands)))));
+            opens =
+                subst (λ (m : Machine). OpensFree ((come.commands ++ command ∷ []) ++ commands_of mid.kept.items ++ waits (known_in m)) (names_in m))
+                (sym machine)
+                (subst (λ (lines : List Placed). OpensFree ((come.commands ++ command ∷ []) ++ commands_of lines ++ waits (known_in old.machine)) (names_in old.machine))
+                (sym left)
+                (subst (λ (given : List Command). OpensFree (given ++ waits (known_in old.machine)) (names_in old.machine)) (sym then)
+                (subst (λ (given : List Command). OpensFree ((given ++ command ∷ []) ++ waits (known_in old.machine)) (names_in old.machine)) out
+                (opens_then (come.commands ++ commands_of old.kept.items) command known (known_in old.machine) hands come.opens))));
+          };
     }
 
 -- It is kept, to be joined.
 pub hands_kept : {E : Type 0} (old mid new : Conversion E) (bytes : Option (List ℕ)) (line : Placed)
     → mid ≡ record old { naming = mid.naming } → new ≡ record mid { kept = new.kept } → is_some mid.options.merge ≡ true
     → new.kept.items ≡ mid.kept.items ++ line ∷ [] → HandsOn line.command (old, bytes) (new, bytes)
-hands_kept {E} old mid new bytes line is then some more = λ start come.
+hands_kept {E} old mid new bytes line is then some more =
     let machine : new.machine ≡ old.machine = ap (λ (c : Conversion E). c.machine) then ∙ ap (λ (c : Conversion E). c.machine) is in
+    let options : new.options ≡ old.options = ap (λ (c : Conversion E). c.options) then ∙ ap (λ (c : Conversion E). c.options) is in
     let was : new.text ≡ old.text = ap (λ (c : Conversion E). c.text) then ∙ ap (λ (c : Conversion E). c.text) is in
-    let merge : new.options.merge ≡ mid.options.merge = ap (λ (c : Conversion E). c.options.merge) then in
+    let merge : is_some new.options.merge ≡ true = ap (λ (c : Conversion E). is_some c.options.merge) then ∙ some in
     let before : new.kept.items ≡ old.kept.items ++ line ∷ [] =
-    more ∙ ap (λ (c : Conversion E). c.kept.items ++ line ∷ []) is in
-    let are : (come.commands ++ commands_of old.kept.items) ++ line.command ∷ waiting_in old.machine
-    ≡ (come.commands ++ commands_of (old.kept.items ++ line ∷ [])) ++ waiting_in old.machine =
-    sym (append_assoc (come.commands ++ commands_of old.kept.items) (line.command ∷ []) (waiting_in old.machine))
-    ∙ ap (λ (first : List Command). first ++ waiting_in old.machine)
-    (append_assoc come.commands (commands_of old.kept.items) (line.command ∷ [])
-    ∙ ap (λ (rest : List Command). come.commands ++ rest) (sym (commands-append old.kept.items (line ∷ [])))) in
-    record {
-      commands = come.commands;
-      lines = subst (λ (t : Output). WritesLines start bytes t.text.items come.commands) (sym was) come.lines;
-      alone = λ no. absurd (true≢false (sym some ∙ ap is_some (sym merge ∙ no)));
-      opens =
-          subst (λ (lines : List Placed). OpensFree (come.commands ++ commands_of lines ++ waiting_in new.machine) (names_in new.machine)) (sym before)
-          (subst (λ (m : Machine). OpensFree (come.commands ++ commands_of (old.kept.items ++ line ∷ []) ++ waiting_in m) (names_in m)) (sym machine)
-          (subst (λ (commands : List Command). OpensFree commands (names_in old.machine)) are come.opens));
+    more ∙ ap (λ (c : Conversion E). c.kept.items ++ line ∷ []) is in record {
+      options = options;
+      machine = machine;
+      comes = λ start said known hands come.
+          let out : (come.commands ++ commands_of old.kept.items) ++ line.command ∷ [] ≡ come.commands ++ commands_of new.kept.items =
+          append_assoc come.commands (commands_of old.kept.items) (line.command ∷ [])
+          ∙ ap (λ (rest : List Command). come.commands ++ rest) (sym (commands-append old.kept.items (line ∷ [])))
+          ∙ ap (λ (lines : List Placed). come.commands ++ commands_of lines) (sym before) in
+          record {
+            commands = come.commands;
+            lines = subst (λ (t : Output). WritesLines start bytes t.text.items come.commands) (sym was) come.lines;
+            alone = λ no. absurd (true≢false (sym merge ∙ ap is_some no));
+            apart = λ _. come.apart (sym (ap (λ (o : Options). is_some o.merge) options) ∙ merge);
+            follows =
+                subst (λ (m : Machine). Follows (asks_reports new.options.reports) said (come.commands ++ commands_of new.kept.items) (known_in m))
+                (sym machine)
+                (subst (λ (o : Options). Follows (asks_reports o.reports) said (come.commands ++ commands_of new.kept.items) (known_in old.machine))
+                (sym options)
+                (subst (λ (given : List Command). Follows (asks_reports old.options.reports) said given (known_in old.machine)) out
+                (gave said (come.commands ++ commands_of old.kept.items) (line.command ∷ []) known (known_in old.machine) come.follows hands)));
+            opens =
+                subst (λ (m : Machine). OpensFree (come.commands ++ commands_of new.kept.items ++ waits (known_in m)) (names_in m)) (sym machine)
+                (subst (λ (given : List Command). OpensFree (given ++ waits (known_in old.machine)) (names_in old.machine)) out
+                (opens_then (come.commands ++ commands_of old.kept.items) line.command known (known_in old.machine) hands come.opens));
+          };
     }
 
--- All lines have come, where none are to be joined.
-pub ends : {E : Type 0} (start bytes : Option (List ℕ)) (conversion : Conversion E) → IsUnderWay start (conversion, bytes)
-    → HasEnded start bytes conversion.text.text.items
-ends start bytes conversion come =
-    let first = opens_first (come.commands ++ commands_of conversion.kept.items) (waiting_in conversion.machine)
-    (names_in conversion.machine) come.opens in
+-- All that the lines give has come, where none are to be joined.
+pub ends : {E : Type 0} (start bytes : Option (List ℕ)) (said : List Said) (conversion : Conversion E) → conversion.options.merge ≡ None
+    → IsUnderWay start said (conversion, bytes) → waits (known_in conversion.machine) ≡ []
+    → HasEnded conversion.options said [] start bytes conversion.text.text.items
+ends start bytes said conversion none come all =
+    let known : Known = known_in conversion.machine in
+    let given : List Command = come.commands ++ commands_of conversion.kept.items in
+    let is : come.commands ≡ given ++ [] =
+    sym (append-nil come.commands)
+    ∙ ap (λ (lines : List Placed). come.commands ++ commands_of lines) (sym (come.alone none))
+    ∙ sym (append-nil given) in
+    let first = opens_first given (waits known) known.loaders.used come.opens in
     let alone = opens_first come.commands (commands_of conversion.kept.items) first.0 first.1 in
-    record { commands = come.commands; lines = come.lines; used = alone.0; opens = alone.1 }
+    record {
+      commands = come.commands;
+      lines = come.lines;
+      are = record {
+        given = given;
+        known = known;
+        joined = given;
+        follows = come.follows;
+        all = all;
+        joins = subst (λ (merge : Option ℕ). AreJoined merge given given) (sym none) refl;
+        ends = is;
+      };
+      used = alone.0;
+      opens = alone.1;
+    }
 
 -- And where those that are kept are joined, and go out.
-pub ends_joined : {E : Type 0} (start bytes after : Option (List ℕ)) (conversion : Conversion E) (most : ℕ) (joined : List Placed) (text : List ℕ)
-    → IsJoined most (forgotten conversion.kept.items) joined
+pub ends_joined : {E : Type 0} (start bytes after : Option (List ℕ)) (said : List Said) (conversion : Conversion E) (most : ℕ)
+    (joined : List Placed) (text : List ℕ) → conversion.options.merge ≡ Some most → IsJoined most (forgotten conversion.kept.items) joined
     → ((start : Option (List ℕ)) (commands : List Command) → WritesLines start bytes conversion.text.text.items commands
     → WritesLines start after text (commands ++ commands_of joined))
-    → IsUnderWay start (conversion, bytes) → HasEnded start after text
-ends_joined start bytes after conversion most joined text joins writes come =
+    → IsUnderWay start said (conversion, bytes) → waits (known_in conversion.machine) ≡ []
+    → HasEnded conversion.options said [] start after text
+ends_joined start bytes after said conversion most joined text some joins writes come all =
+    let known : Known = known_in conversion.machine in
     let kept : List Command = commands_of conversion.kept.items in
-    let first = opens_first (come.commands ++ kept) (waiting_in conversion.machine) (names_in conversion.machine) come.opens in
+    let none : come.commands ≡ [] = come.apart (ap is_some some) in
+    let first = opens_first (come.commands ++ kept) (waits known) known.loaders.used come.opens in
     let acts : flat_map name_acts (commands_of joined) ≡ flat_map name_acts kept =
     joined_acts most (forgotten conversion.kept.items) joined joins
     ∙ ap (flat_map name_acts) (forgotten_commands conversion.kept.items) in
@@ -190,23 +326,53 @@ ends_joined start bytes after conversion most joined text joins writes come =
     record {
       commands = come.commands ++ commands_of joined;
       lines = writes start come.commands come.lines;
+      are = record {
+        given = come.commands ++ kept;
+        known = known;
+        joined = commands_of joined;
+        follows = come.follows;
+        all = all;
+        joins =
+            subst (λ (merge : Option ℕ). AreJoined merge (come.commands ++ kept) (commands_of joined)) (sym some)
+            (conversion.kept.items, joined, ap (λ (commands : List Command). commands ++ kept) none, joins, refl);
+        ends = ap (λ (commands : List Command). commands ++ commands_of joined) none ∙ sym (append-nil (commands_of joined));
+      };
       used = first.0;
       opens = opens_same (come.commands ++ kept) (come.commands ++ commands_of joined) first.0 same first.1;
     }
 
 -- A report more, which opens nothing.
-pub ends_reported : (start bytes after : Option (List ℕ)) (kept text : List ℕ)
+pub ends_reported : (options : Options) (said : List Said) (start bytes after : Option (List ℕ)) (kept text : List ℕ)
+    → last_report options.reports ≡ Report ∷ []
     → ((start : Option (List ℕ)) (commands : List Command) → WritesLines start bytes kept commands
     → WritesLines start after text (commands ++ Report ∷ []))
-    → HasEnded start bytes kept → HasEnded start after text
-ends_reported start bytes after kept text writes ended = record {
-  commands = ended.commands ++ Report ∷ [];
-  lines = writes start ended.commands ended.lines;
-  used = ended.used;
-  opens = opens_quiet ended.commands Report ended.used refl ended.opens;
-}
+    → HasEnded options said [] start bytes kept → HasEnded options said (last_report options.reports) start after text
+ends_reported options said start bytes after kept text is writes ended =
+    subst (λ (last : List Command). HasEnded options said last start after text) (sym is) (record {
+      commands = ended.commands ++ Report ∷ [];
+      lines = writes start ended.commands ended.lines;
+      are = record {
+        given = ended.are.given;
+        known = ended.are.known;
+        joined = ended.are.joined;
+        follows = ended.are.follows;
+        all = ended.are.all;
+        joins = ended.are.joins;
+        ends = ap (λ (commands : List Command). commands ++ Report ∷ []) (ended.are.ends ∙ append-nil ended.are.joined);
+      };
+      used = ended.used;
+      opens = opens_quiet ended.commands Report ended.used refl ended.opens;
+    })
+
+-- Or none is wanted.
+pub ends_unreported : (options : Options) (said : List Said) (start bytes : Option (List ℕ)) (text : List ℕ)
+    → last_report options.reports ≡ [] → HasEnded options said [] start bytes text
+    → HasEnded options said (last_report options.reports) start bytes text
+ends_unreported options said start bytes text none ended =
+    subst (λ (last : List Command). HasEnded options said last start bytes text) (sym none) ended
 
 -- What is kept goes out at last.
-pub ends_written : (start old new : Option (List ℕ)) (kept : List ℕ) → HasEnded start old kept → Appends old new kept
-    → WritesTrace start new
-ends_written start old new kept ended written = trace_is start old new kept ended.commands ended.used ended.lines ended.opens written
+pub ends_written : (options : Options) (said : List Said) (start old new : Option (List ℕ)) (kept : List ℕ)
+    → HasEnded options said (last_report options.reports) start old kept → Appends old new kept → WritesTrace options said start new
+ends_written options said start old new kept ended written =
+    trace_is options said start old new kept ended.commands ended.used ended.lines ended.are ended.opens written

@@ -3,14 +3,17 @@
 //!     heard    machine (held back)  ->  kept (to be joined)  ->  text (a piece)  ->  output
 //!
 //! Kept true: what went out and the text are lines of commands, after which the others come.
-ghost use Rattle.std.specs.Prelude.{◌≡◌, Option, List, ℕ, IfOk, OnOk};
-ghost use Rattle.metalog.specs.Trace.{WritesTrace};
-ghost use Rattle.metalog.specs.UnderWay.{GoesOn, HandsOn, HasEnded, IsUnderWay};
+ghost use Rattle.std.specs.Prelude.{◌≡◌, Option, List, [], true, ℕ, IfOk, OnOk};
+ghost use Rattle.jvm_log.specs.declared.event.Said.{Said as SaidOf};
+ghost use Rattle.jvm_log.specs.Known.{known_in, waits};
+ghost use Rattle.jvm_log.specs.Waits.{is_closed};
+ghost use Rattle.metalog.specs.Trace.{WritesTrace, last_report};
+ghost use Rattle.metalog.specs.UnderWay.{Begins, GoesOn, HandsOn, HasEnded, IsUnderWay};
 
 use crate::failure::Failure;
 use crate::joining::join;
 use crate::naming::Naming;
-use crate::options::{Options, Reports};
+use crate::options::Options;
 use crate::output::Output;
 use crate::warnings::Warnings;
 use jvm_log::{Event, Listener, Machine, Placed, Said, Stop, Trouble};
@@ -64,12 +67,12 @@ impl<'a, E: Write> Conversion<'a, E> {
         options: Options<'a>,
         errors: &'a mut E,
     ) -> Result<Conversion<'a, E>, AllocError>
-        ensures { IfOk result (λ conversion. (bytes : Option (List ℕ)) → IsUnderWay bytes (conversion, bytes)) }
+        ensures { IfOk result (Begins options.entry) }
     {
         Ok(Conversion {
             alloc,
             options,
-            machine: Machine::new(alloc, options.reports == Reports::Gc)?,
+            machine: Machine::new(alloc, options.reports.are_after_collections())?,
             warnings: Warnings::new(alloc),
             naming: Naming::new(alloc),
             kept: Vec::new(alloc),
@@ -107,9 +110,10 @@ impl<'a, E: Write> Conversion<'a, E> {
 
     /// Hands on the lines that are known so far.
     fn hand_on<W: Write>(&mut self, output: &mut W) -> Result<(), Stop>
-        ensures { OnOk result (GoesOn (self.old, W.contents output.old) (self.new, W.contents output.new)) }
+        ensures comes { OnOk result (GoesOn [] (self.old, W.contents output.old) (self.new, W.contents output.new)) }
+        ensures all { OnOk result (is_closed self.old.machine ≡ true → waits (known_in self.new.machine) ≡ []) }
     {
-        for _ in 0..u64::MAX {
+        for _given in 0..self.machine.held_back() {
             let Some(line) = self.machine.next_line() else {
                 break;
             };
@@ -147,8 +151,10 @@ impl<'a, E: Write> Conversion<'a, E> {
 
     /// Hands on the lines that are kept, joined.
     fn hand_on_kept<W: Write>(&mut self, output: &mut W) -> Result<(), Stop>
-        ensures { OnOk result ((start : Option (List ℕ)) → IsUnderWay start (self.old, W.contents output.old)
-            → HasEnded start (W.contents output.new) self.new.text.text.items) }
+        ensures ended { OnOk result ((start : Option (List ℕ)) (said : List SaidOf)
+            → IsUnderWay start said (self.old, W.contents output.old) → waits (known_in self.old.machine) ≡ []
+            → HasEnded self.old.options said [] start (W.contents output.new) self.new.text.text.items) }
+        ensures options { self.new.options ≡ self.old.options }
     {
         let Some(most) = self.options.merge else {
             return Ok(());
@@ -159,11 +165,12 @@ impl<'a, E: Write> Conversion<'a, E> {
 
     /// Asks for a report at the end, unless none is wanted.
     fn report<W: Write>(&mut self, output: &mut W) -> Result<(), Stop>
-        ensures { OnOk result ((start : Option (List ℕ))
-            → HasEnded start (W.contents output.old) self.old.text.text.items
-            → HasEnded start (W.contents output.new) self.new.text.text.items) }
+        ensures { OnOk result ((start : Option (List ℕ)) (said : List SaidOf)
+            → HasEnded self.old.options said [] start (W.contents output.old) self.old.text.text.items
+            → HasEnded self.old.options said (last_report self.old.options.reports) start (W.contents output.new)
+            self.new.text.text.items) }
     {
-        if self.options.reports == Reports::None {
+        if !self.options.reports.are_at_end() {
             return Ok(());
         }
         self.text.add(Command::Report, output)
@@ -171,8 +178,9 @@ impl<'a, E: Write> Conversion<'a, E> {
 
     /// Ends a log of so many lines: writes what is left, and returns the text of the file of names.
     pub fn finish<W: Write>(&mut self, lines: u64, output: &mut W) -> Result<Vec<u8>, Failure>
-        ensures { OnOk result ((start : Option (List ℕ)) → IsUnderWay start (self.old, W.contents output.old)
-            → WritesTrace start (W.contents output.new)) }
+        ensures { OnOk result ((start : Option (List ℕ)) (said : List SaidOf)
+            → IsUnderWay start said (self.old, W.contents output.old)
+            → WritesTrace self.old.options said start (W.contents output.new)) }
     {
         let trouble = self.machine.finish();
         self.warn(trouble, lines)?;

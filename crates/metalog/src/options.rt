@@ -4,7 +4,7 @@
 //!
 //! Kept true: what isn't asked for is the default. `clap` reads the words and writes the texts of
 //! refusals and of the help.
-ghost use Rattle.std.specs.Prelude.{◌≡◌, ◌≤◌, IfErr, IfOk, IsOkAnd, None, codes, false, length, map};
+ghost use Rattle.std.specs.Prelude.{◌≡◌, ◌≤◌, ◌∷◌, [], IfErr, IfOk, IsFalse, IsOkAnd, IsTrue, None, codes, false, length, map};
 ghost use Rattle.clap.specs.Words.{App, app_of, found_of, kind_of, rows_of, rule_of, with_rule};
 ghost use Rattle.metalog.specs.Asked.{AreAsked, AreRead, IsDefault, IsTold, ReadsMerge, ReadsReports};
 ghost use Rattle.metalog.specs.CommandLine.{AskToBeTold, IsCommandLine, IsReportRule, IsShown};
@@ -25,6 +25,26 @@ pub enum Reports {
     Gc,
     /// Nowhere.
     None,
+}
+
+impl Reports {
+    ghost use Rattle.ms_trace.specs.declared.trace.Command.TheVariants.{Report};
+    ghost use Rattle.metalog.specs.Trace.{asks_reports, last_report};
+
+    /// Checks whether each collection asks for a report.
+    pub fn are_after_collections(self) -> bool
+        ensures { result ≡ asks_reports self }
+    {
+        matches!(self, Reports::Gc)
+    }
+
+    /// Checks whether the end asks for a report.
+    pub fn are_at_end(self) -> bool
+        ensures report { IsTrue result → last_report self ≡ Report ∷ [] }
+        ensures none { IsFalse result → last_report self ≡ [] }
+    {
+        !matches!(self, Reports::None)
+    }
 }
 
 /// The options of a run. This project's choice.

@@ -2,7 +2,7 @@
 //! lines of the trace. They are written as they come, or in the end where blocks are joined.
 ghost use Rattle.std.specs.Prelude.{◌≡◌, ◌≢◌, ◌≤◌, IfSome, OnOk};
 ghost use Rattle.metalog.specs.Release.{LogIsOfJdk17};
-ghost use Rattle.metalog.specs.Trace.{WritesTrace};
+ghost use Rattle.metalog.specs.Trace.{Converts};
 
 use crate::conversion::Conversion;
 use crate::failure::Failure;
@@ -15,7 +15,7 @@ use std::rt::Files;
 
 /// Reads a log and writes its trace; returns the exit status. Warnings go to `errors`. Reading ends
 /// at the first line of another release than JDK 17, and nothing is written from there on. At status
-/// 0 the output has grown by a trace.
+/// 0 the output has grown by the trace of all that the log's lines say.
 #[tactic(auto, using(crate::proofs::StatusLemmas::status_is_few, crate::proofs::StatusLemmas::status_is_no_usage, crate::proofs::StatusLemmas::status_is_no_success))]
 pub fn session<T: Files, R: BufRead, W: Write, E: Write>(
     rt: &T,
@@ -28,7 +28,8 @@ pub fn session<T: Files, R: BufRead, W: Write, E: Write>(
     ensures no_usage { result ≢ 2 }
     ensures statuses { result ≤ 5 }
     ensures release { result ≡ 0 → IfSome (R.remaining input.old) LogIsOfJdk17 }
-    ensures trace { result ≡ 0 → WritesTrace (W.contents output.old) (W.contents output.new) }
+    ensures trace { result ≡ 0 → Converts options.now (R.remaining input.old) (W.contents output.old)
+        (W.contents output.new) }
 {
     match convert(alloc, options, input, output, errors) {
         Ok(names) => match keep_names(rt, options, &names) {
@@ -48,7 +49,8 @@ fn convert<R: BufRead, W: Write, E: Write>(
     errors: &mut E,
 ) -> Result<Vec<u8>, Failure>
     ensures release { OnOk result (IfSome (R.remaining input.old) LogIsOfJdk17) }
-    ensures trace { OnOk result (WritesTrace (W.contents output.old) (W.contents output.new)) }
+    ensures trace { OnOk result (Converts options.now (R.remaining input.old) (W.contents output.old)
+        (W.contents output.new)) }
 {
     let mut conversion = Conversion::new(alloc, *options, errors)?;
     let lines = read_log(alloc, input, &mut conversion, output)?;

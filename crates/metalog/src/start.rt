@@ -2,7 +2,7 @@
 ghost use Rattle.std.specs.Prelude.{◌≡◌, ◌≤◌, ◌⊎◌, IfSome, map};
 ghost use Rattle.metalog.specs.CommandLine.{AskToBeTold};
 ghost use Rattle.metalog.specs.Release.{LogIsOfJdk17};
-ghost use Rattle.metalog.specs.Trace.{WritesTrace};
+ghost use Rattle.metalog.specs.Trace.{ConvertsAsked};
 
 use crate::failure::Failure;
 use crate::options::{Refused, options_of};
@@ -32,7 +32,7 @@ pub fn start<T: Files, S: AsStr, R: BufRead, W: Write, E: Write>(
     ensures release { result ≡ 0 → (R.remaining input.new ≡ R.remaining input.old)
         ⊎ IfSome (R.remaining input.old) LogIsOfJdk17 }
     ensures trace { result ≡ 0 → AskToBeTold (map S.text words.now)
-        ⊎ WritesTrace (W.contents output.old) (W.contents output.new) }
+        ⊎ ConvertsAsked (map S.text words.now) (R.remaining input.old) (W.contents output.old) (W.contents output.new) }
 {
     match options_of(alloc, words) {
         Ok(options) => session(rt, alloc, &options, input, output, errors),

@@ -2,7 +2,7 @@
 use Rattle.std.proofs.Common.{ℕ, List, subst}
 use Rattle.jvm_log.specs.Hearing.{HearsLine, trimmed}
 use Rattle.jvm_log.specs.Reading.{said_in}
-use Rattle.jvm_log.proofs.HearingLemmas.{all_heard, all_left, line_heard}
+use Rattle.jvm_log.proofs.HearingLemmas.{all_heard, line_heard}
 use Rattle.jvm_log.proofs.lines.read_log.Goals as goal
 
 pub returns-then-not-more : goal.returns-then-not-more

@@ -1,5 +1,5 @@
 -- What a newline that is stripped leaves.
-use Rattle.std.proofs.Common.{◌≡◌, List, ℕ, [], ◌∷◌, rules}
+use Rattle.std.proofs.Common.{◌≡◌, [], ◌∷◌, rules}
 use Rattle.jvm_log.proofs.HearingLemmas.{trimmed_none, trimmed_some}
 use Rattle.jvm_log.proofs.lines.trimmed.Goals as goal
 

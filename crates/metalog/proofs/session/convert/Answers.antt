@@ -1,19 +1,18 @@
 -- A log that is heard to its end is of JDK 17, and its trace goes out.
 use Rattle.std.specs.Prelude.{IfSome}
 use Rattle.metalog.specs.Release.{LogIsOfJdk17}
-use Rattle.metalog.proofs.ReleaseLemmas.{log_is, on_success}
+use Rattle.metalog.proofs.ReleaseLemmas.{converts, log_is, on_success}
 use Rattle.metalog.proofs.TraceLemmas.{ok_map}
 use Rattle.metalog.proofs.session.convert.Goals as goal
 
 pub returns-clause-release : goal.returns-clause-release
 returns-clause-release g c =
     on_success c.finish.result (IfSome (g.R.Read.remaining c.args.input.now) LogIsOfJdk17)
-    (log_is _ _ (g.R.Read.remaining c.args.input.now) c.in_ok-lines.ensures).0
+    (log_is _ _ (g.R.Read.remaining c.args.input.now) c.in_ok-lines.ensures)
 
 pub returns-clause-trace : goal.returns-clause-trace
 returns-clause-trace g c =
     ok_map c.finish.result _ _
-    (λ writes. writes (g.W.Write.contents c.args.output.now)
-    ((log_is _ _ (g.R.Read.remaining c.args.input.now) c.in_ok-lines.ensures).1 (g.W.Write.contents c.args.output.now)
-    (c.in_ok-conversion.ensures (g.W.Write.contents c.args.output.now))))
+    (converts c.args.options.now _ _ (g.R.Read.remaining c.args.input.now) (g.W.Write.contents c.args.output.now) _ _
+    c.in_ok-conversion.ensures c.in_ok-lines.ensures)
     c.finish.ensures

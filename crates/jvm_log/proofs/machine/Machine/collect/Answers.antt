@@ -1,5 +1,5 @@
 -- A report does nothing to names.
-use Rattle.std.proofs.Common.{◌∷◌, [], true, refl, ap}
+use Rattle.std.proofs.Common.{refl, ap}
 use Rattle.ms_trace.specs.declared.trace.Command.TheVariants.{Report}
 use Rattle.jvm_log.specs.Giving.{reporting}
 use Rattle.jvm_log.proofs.GivingLemmas.{adds_whole}

@@ -1,8 +1,5 @@
 -- A loader is opened under a name that was free.
-use Rattle.std.proofs.Common.{◌∙◌, ◌∷◌, []}
-use Rattle.ms_base.specs.declared.kind.Kind.TheVariants.{Standard}
-use Rattle.ms_base.specs.declared.step.Step.TheVariants.{New}
-use Rattle.ms_trace.specs.declared.trace.Command.TheVariants.{Step as Asks}
+use Rattle.std.proofs.Common.{◌∙◌}
 use Rattle.jvm_log.specs.Waits.{acts_in, names_in, waiting_in}
 use Rattle.jvm_log.proofs.GivingLemmas.{adds_born, opens_as}
 use Rattle.jvm_log.proofs.HeldLemmas.{acts_born}

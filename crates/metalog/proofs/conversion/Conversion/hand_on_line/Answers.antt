@@ -1,6 +1,7 @@
 -- A line goes out, or is kept to be joined.
+use Rattle.std.proofs.Common.{refl}
 use Rattle.metalog.proofs.TraceLemmas.{ok_map}
-use Rattle.metalog.proofs.UnderWayLemmas.{hands_out}
+use Rattle.metalog.proofs.UnderWayLemmas.{hands_kept, hands_out}
 use Rattle.metalog.proofs.conversion.Conversion.hand_on_line.Goals as goal
 
 pub returns-then-is_none : goal.returns-then-is_none
@@ -10,3 +11,8 @@ returns-then-is_none g c =
     hands_out c.args.self.now c.number.new.self c.add.new.self (g.W.Write.contents c.args.output.now)
     (g.W.Write.contents c.add.new.output) c.args.line.command c.in_ok-number.ensures c.if-is_none.ensures lines)
     c.add.ensures.lines
+
+pub returns-in-Ok : goal.returns-in-Ok
+returns-in-Ok g c =
+    hands_kept c.args.self.now c.number.new.self (record c.number.new.self { kept = c.push.new.self }) (g.W.Write.contents c.args.output.now)
+    c.args.line c.in_ok-number.ensures refl c.if-is_none.ensures c.in-Ok.ensures.items

@@ -1,6 +1,15 @@
 -- A trace begins.
+use Rattle.std.proofs.Common.{Bool, refl, subst}
+use Rattle.jvm_log.specs.Following.{KnowsNothing}
+use Rattle.jvm_log.specs.Known.{known_in}
 use Rattle.metalog.proofs.UnderWayLemmas.{begins}
 use Rattle.metalog.proofs.conversion.Conversion.new.Goals as goal
 
 pub returns : goal.returns
-returns g c = λ bytes. begins bytes _ c.in_ok-new.ensures.waits c.in_ok-new.ensures.names c.new-4.ensures.items c.new-5.ensures
+returns g c = record {
+  options_are = refl;
+  comes = λ start.
+      begins start _
+      (subst (λ (reports : Bool). KnowsNothing reports (known_in c.in_ok-new.field-0)) c.are_after_collections.ensures c.in_ok-new.ensures)
+      c.new-4.ensures.items c.new-5.ensures;
+}

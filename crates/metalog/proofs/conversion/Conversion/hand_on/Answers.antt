@@ -1,0 +1,30 @@
+-- A turn hands on the line that the machine gives, and the last finds that it gives none.
+use Rattle.std.proofs.Common.{◌≡◌, ◌∙◌, [], ap, arith, length, refl}
+use Rattle.jvm_log.specs.declared.machine.Machine.{Machine}
+use Rattle.jvm_log.specs.Known.{known_in, waits}
+use Rattle.jvm_log.specs.Waits.{is_closed}
+use Rattle.metalog.proofs.UnderWayLemmas.{gives, goes_on, stays}
+use Rattle.metalog.proofs.conversion.Conversion.hand_on.Goals as goal
+
+pub loop-given-preserved : goal.loop-given-preserved
+loop-given-preserved g c =
+    let start = g.W.Write.contents c.args.output.now in
+    let before = g.W.Write.contents c.loop-given.output in
+    let after = g.W.Write.contents c.hand_on_line.new.output in
+    let on = c.in_ok-hand_on_line.ensures in
+    let gave = c.in-Some.ensures.gives in
+    let same : length (waits (known_in c.hand_on_line.new.self.machine)) ≡ length (waits (known_in c.next_line.new.self)) =
+    ap (λ (m : Machine). length (waits (known_in m))) on.machine in record {
+      comes =
+          goes_on [] [] (c.args.self.now, start) (c.loop-given.self, before) (c.hand_on_line.new.self, after) c.loop-given.invariant.comes
+          (gives c.loop-given.self (record c.loop-given.self { machine = c.next_line.new.self }) (c.hand_on_line.new.self, after) before
+          c.in-Some.line.command gave refl refl refl on);
+      closed = ap (λ (m : Machine). is_closed m) on.machine ∙ c.next_line.ensures.closed ∙ c.loop-given.invariant.closed;
+      fewer = omega (arith, same, ap length gave.first, c.loop-given.invariant.fewer);
+    }
+
+pub returns-in_default-clause-comes : goal.returns-in_default-clause-comes
+returns-in_default-clause-comes g c =
+    let before = g.W.Write.contents c.loop-given.output in
+    goes_on [] [] (c.args.self.now, g.W.Write.contents c.args.output.now) (c.loop-given.self, before) _ c.loop-given.invariant.comes
+    (stays c.loop-given.self (record c.loop-given.self { machine = c.next_line.new.self }) before c.in_default.ensures.none refl refl refl)
