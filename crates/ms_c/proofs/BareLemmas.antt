@@ -119,7 +119,7 @@ pub placed_bare : (space : Space) (words : ℕ) (old : BareArenas) (is : BareVie
     → IfOk answer (λ found. IfNone found (is ≡ bare_in space old))
     → IfOk answer (λ found. PlacesBare space words old found (with_bare space old is))
 placed_bare space words old is (Ok found) places gains none =
-    record { is = is; places = places; gains = gains; none = none; new_is = refl }
+    record { is = is; placing = places; gains = gains; none = none; new_is = refl }
 placed_bare space words old is (Err refusal) places gains none = tt
 
 -- One goes that may be live.

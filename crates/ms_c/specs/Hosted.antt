@@ -63,7 +63,7 @@ pub record TakesBare (space : Space) (words : ℕ) (held : HeldState) (old : Bar
 pub record PlacesBare (space : Space) (words : ℕ) (old : BareArenas) (found : Option Block) (new : BareArenas) : Type 0
   where
     pub is : BareView
-    pub places : (live : List (ℕ × List ℕ)) → Places (arena_with (bare_in space old) live) words found
+    pub placing : (live : List (ℕ × List ℕ)) → Places (arena_with (bare_in space old) live) words found
         (arena_with is (live_with live found))
     pub gains : IfSome found (λ block. GainsLive (bare_in space old) block is)
     pub none : IfNone found (is ≡ bare_in space old)
