@@ -56,6 +56,7 @@ impl BareArena {
     }
 
     /// Places a block where the arena needs no further chunk, as `RawArena::place` does.
+    #[inline(always)]
     pub fn place(&mut self, words: u64) -> Result<Option<Block>, Refusal>
         ensures placed { (live : List (ℕ × List ℕ)) → IfOk result (λ found. Places
             (arena_with self.old live) words found (arena_with self.new (live_with live found))) }
