@@ -7,3 +7,4 @@ pub mod OutputLemmas
 pub mod NamingLemmas
 pub mod TraceLemmas
 pub mod UnderWayLemmas
+pub mod EndedLemmas

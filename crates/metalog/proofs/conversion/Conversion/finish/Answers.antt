@@ -9,7 +9,8 @@ use Rattle.metalog.specs.Trace.{WritesTrace}
 use Rattle.metalog.specs.UnderWay.{HasEnded, IsUnderWay}
 use Rattle.metalog.specs.declared.conversion.Conversion.{Conversion}
 use Rattle.metalog.specs.declared.options.Options.{Options}
-use Rattle.metalog.proofs.UnderWayLemmas.{ends_written, goes_on, same_lines, stays}
+use Rattle.metalog.proofs.EndedLemmas.{ends_written}
+use Rattle.metalog.proofs.UnderWayLemmas.{goes_on, same_lines, stays}
 use Rattle.metalog.proofs.conversion.Conversion.finish.Goals as goal
 
 pub returns : goal.returns

@@ -4,7 +4,8 @@ use Rattle.ms_trace.specs.declared.trace.Command.{Command}
 use Rattle.jvm_log.specs.declared.placed.Placed.{Placed}
 use Rattle.metalog.specs.Trace.{WritesLines, commands_of}
 use Rattle.metalog.proofs.TraceLemmas.{ok_map}
-use Rattle.metalog.proofs.UnderWayLemmas.{ends, ends_joined, none_by}
+use Rattle.metalog.proofs.EndedLemmas.{ends, ends_joined}
+use Rattle.metalog.proofs.UnderWayLemmas.{none_by}
 use Rattle.metalog.proofs.conversion.Conversion.hand_on_kept.Goals as goal
 
 pub returns-in_default-clause-ended : goal.returns-in_default-clause-ended

@@ -3,7 +3,7 @@ use Rattle.std.proofs.Common.{◌≡◌, [], ◌∷◌, rules}
 use Rattle.ms_trace.specs.declared.trace.Command.TheVariants.{Report}
 use Rattle.metalog.specs.Trace.{last_report}
 use Rattle.metalog.proofs.TraceLemmas.{ok_map}
-use Rattle.metalog.proofs.UnderWayLemmas.{ends_reported, ends_unreported}
+use Rattle.metalog.proofs.EndedLemmas.{ends_reported, ends_unreported}
 use Rattle.metalog.proofs.conversion.Conversion.report.Goals as goal
 
 pub returns-then-not-are_at_end : goal.returns-then-not-are_at_end
