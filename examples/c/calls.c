@@ -33,10 +33,10 @@ static void tell_counts(nizgrabul_handle *handle, nizgrabul_limit_counts *c) {
 }
 
 /* Tells each run of granules that went. */
-static void tell_gone(nizgrabul_handle *handle, const bool *was, size_t places) {
+static void tell_gone(nizgrabul_handle *handle, const bool *was, size_t elements) {
     nizgrabul_run run = {0};
     do {
-        run = nizgrabul_next_uncommitted(handle, was, places, run.first + run.granules);
+        run = nizgrabul_next_uncommitted(handle, was, elements, run.first + run.granules);
         printf("gone: granules %" PRIu64 " from %" PRIu64 ", %" PRIu64 " came\n", run.granules, run.first, run.came);
     } while (run.granules);
 }

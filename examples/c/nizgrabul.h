@@ -19,7 +19,7 @@
  *     }
  *     nizgrabul_unload(&handle, 1);
  *     run.first = run.granules = 0;       was[k] is whether granule k was committed:
- *     while (run = nizgrabul_next_uncommitted(&handle, was, places, run.first + run.granules), run.granules)
+ *     while (run = nizgrabul_next_uncommitted(&handle, was, elements, run.first + run.granules), run.granules)
  *         ..                              give back run.granules granules from granule run.first on
  *     nizgrabul_delete(&handle);
  *
@@ -313,16 +313,16 @@ nizgrabul_answer nizgrabul_holder(nizgrabul_handle *handle, uint64_t word);
  * 8192, or 2048 under the policy aggressive. With no system none is. Takes no memory. */
 bool nizgrabul_is_committed(nizgrabul_handle *handle, uint64_t granule);
 
-/* Writes to `out` of each granule from `first` on, as many as it has places, whether it is committed; with no
+/* Writes to `out` of each granule from `first` on, as many as it has elements, whether it is committed; with no
  * system none is. So a program compares before and after in one call. Takes no memory. */
-void nizgrabul_granules(nizgrabul_handle *handle, uint32_t first, bool *out, size_t places);
+void nizgrabul_granules(nizgrabul_handle *handle, uint32_t first, bool *out, size_t elements);
 
 /* Returns the first run of granules, from the granule `from` on, that were committed and are no more: `was` has
- * a flag for each granule from 0 on, whether it was committed, and granules past its places were not. `came` is
+ * a flag for each granule from 0 on, whether it was committed, and granules past its elements were not. `came` is
  * 0, and a run of no granules says that there is none. Asked from 0 on after an unload or a purge, and then
  * each time from the end of the run before, it returns exactly the granules that a program gives back. With no
  * system none is committed. Takes no memory, and visits no granule past the run's end. */
-nizgrabul_run nizgrabul_next_uncommitted(nizgrabul_handle *handle, const bool *was, size_t places, uint64_t from);
+nizgrabul_run nizgrabul_next_uncommitted(nizgrabul_handle *handle, const bool *was, size_t elements, uint64_t from);
 
 /* Writes all sums over the system to `out`. Returns DONE, NO_SYSTEM or OUT_OF_MEMORY; all but DONE leave `out`
  * as it was. Takes memory while it runs; visits each node, loader and chunk, and no block. */
@@ -469,15 +469,15 @@ uint64_t nizgrabul_seat_used(nizgrabul_seat *seat);
  * each chunk of the loader, and no block. */
 uint32_t nizgrabul_seat_totals(nizgrabul_seat *seat, nizgrabul_sums_of_loader *out);
 
-/* Writes to `out` of each granule from `first` on, as many as it has places, whether it is committed in the
+/* Writes to `out` of each granule from `first` on, as many as it has elements, whether it is committed in the
  * pool that the seat has. Returns DONE; NOT_HELD exactly where the seat doesn't have the pool, and NO_SEAT,
  * which leave `out` as it was. Takes no memory. */
-uint32_t nizgrabul_seat_granules(nizgrabul_seat *seat, uint32_t first, bool *out, size_t places);
+uint32_t nizgrabul_seat_granules(nizgrabul_seat *seat, uint32_t first, bool *out, size_t elements);
 
 /* Gives `out` the first run of granules, from the granule `from` on, that were committed and are no more in the
  * pool that the seat has, as nizgrabul_next_uncommitted does of a system. Returns DONE; NOT_HELD exactly where
  * the seat doesn't have the pool, and NO_SEAT, which leave `out` as it was. Takes no memory. */
-uint32_t nizgrabul_seat_next_uncommitted(nizgrabul_seat *seat, const bool *was, size_t places, uint64_t from,
+uint32_t nizgrabul_seat_next_uncommitted(nizgrabul_seat *seat, const bool *was, size_t elements, uint64_t from,
                                          nizgrabul_run *out);
 
 #ifdef __cplusplus

@@ -47,7 +47,7 @@ pub(crate) mod ffi {
         pub fn nizgrabul_counts(handle: *mut Handle, out: *mut Counts) -> u32;
         pub fn nizgrabul_holder(handle: *mut Handle, word: u64) -> Answer;
         pub fn nizgrabul_used_by(handle: *mut Handle, loader: u16) -> u64;
-        pub fn nizgrabul_granules(handle: *mut Handle, first: u32, out: *mut bool, places: usize);
+        pub fn nizgrabul_granules(handle: *mut Handle, first: u32, out: *mut bool, elements: usize);
         pub fn nizgrabul_loader_totals(handle: *mut Handle, loader: u16, out: *mut LoaderSums) -> u32;
         pub fn nizgrabul_share(options: *const Options, seats: u32, out: *mut Seat) -> u32;
         pub fn nizgrabul_seat_split(seat: *mut Seat, out: *mut Seat) -> u32;
@@ -61,11 +61,11 @@ pub(crate) mod ffi {
         pub fn nizgrabul_seat_free(seat: *mut Seat, block: u32) -> Answer;
         pub fn nizgrabul_seat_purge(seat: *mut Seat) -> Answer;
         pub fn nizgrabul_seat_used(seat: *mut Seat) -> u64;
-        pub fn nizgrabul_seat_granules(seat: *mut Seat, first: u32, out: *mut bool, places: usize) -> u32;
+        pub fn nizgrabul_seat_granules(seat: *mut Seat, first: u32, out: *mut bool, elements: usize) -> u32;
         pub fn nizgrabul_seat_next_uncommitted(
             seat: *mut Seat,
             was: *const bool,
-            places: usize,
+            elements: usize,
             from: u64,
             out: *mut Run,
         ) -> u32;
@@ -299,9 +299,9 @@ impl Metaspace {
     }
 
     /// Which granules are committed, from the first on.
-    pub fn granules(&mut self, first: u32, places: usize) -> Vec<bool> {
-        let mut bits = vec![false; places];
-        unsafe { ffi::nizgrabul_granules(&mut self.0, first, bits.as_mut_ptr(), places) };
+    pub fn granules(&mut self, first: u32, elements: usize) -> Vec<bool> {
+        let mut bits = vec![false; elements];
+        unsafe { ffi::nizgrabul_granules(&mut self.0, first, bits.as_mut_ptr(), elements) };
         bits
     }
 }

@@ -205,8 +205,8 @@ impl Iterator for Uncommitted<'_> {
 
     fn next(&mut self) -> Option<Run> {
         let mut run = Run::default();
-        let (was, places) = (self.was.as_ptr(), self.was.len());
-        unsafe { ffi::nizgrabul_seat_next_uncommitted(&mut self.seat.0, was, places, self.from, &mut run) };
+        let (was, elements) = (self.was.as_ptr(), self.was.len());
+        unsafe { ffi::nizgrabul_seat_next_uncommitted(&mut self.seat.0, was, elements, self.from, &mut run) };
         self.from = run.first + run.granules;
         (run.granules > 0).then_some(run)
     }
