@@ -34,8 +34,8 @@ name_acts_of entries = flat_map name_acts (waiting entries)
 abbrev pub AddsLine : Placed → Held → Held → Type 0
 AddsLine line old new = new.entries.items ≡ old.entries.items ++ Whole line ∷ []
 
--- A line is put at the number of that number while it waits there, and at the end where the number is gone
--- or waits no more.
+-- A line takes the entry of that number while the entry waits for it, and comes at the end where the entry is
+-- gone or waits no more.
 pub record PutsAt (number : ℕ) (line : Placed) (old new : Held) : Type 0 where
   pub waits : old.first ≤ number → slice_get old.entries.items (number - old.first) ≡ Some Asked
       → new.entries.items ≡ slice_set old.entries.items (number - old.first) (Whole line)

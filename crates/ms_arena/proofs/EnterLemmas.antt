@@ -1,4 +1,4 @@
--- An arena's blocks once one enters or goes. For `Arena::position`, `alloc` and `free`.
+-- An arena's blocks once one enters or goes. For `Arena::place`, `alloc` and `free`.
 use Rattle.std.proofs.Common.{◌≡◌, ◌≤◌, ℕ, Bool, true, Option, Some, None, List}
 use Rattle.std.proofs.Common.{◌++◌, replicate, refl, sym, ap, ◌∙◌, inl, inr, arith}
 use Rattle.std.specs.Prelude.{nat_le}
