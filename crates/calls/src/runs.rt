@@ -1,8 +1,9 @@
 //! The row of a replay: the same trace, once more where something was wanted.
 use crate::row::{say, tell};
+use ms_answers::Detail;
 use ms_base::{Policy, Refusal, Reply, Settings};
 use ms_loaders::{Answer, Replies, Totals};
-use ms_run::{Detail, NoGate, replay_detailed};
+use ms_run::{NoGate, replay_detailed};
 use ms_trace::{ParseFault, Trace, parse};
 use std::io::{self, ErrorKind, Read};
 use std::sync::Wait;

@@ -11,8 +11,8 @@ use Rattle.ms_course.specs.declared.moment.Moment.{Moment}
 use Rattle.ms_course.specs.declared.standing.Standing.{Standing}
 use Rattle.ms_json.specs.Document.{DocumentView, Tells, document, no_answer}
 use Rattle.ms_json.proofs.DocumentLemmas.{tells_none}
-use Rattle.ms_loaders.specs.declared.replies.Answer.{Answer}
-use Rattle.ms_loaders.specs.declared.totals.Totals.{Totals}
+use Rattle.ms_answers.specs.declared.replies.Answer.{Answer}
+use Rattle.ms_answers.specs.declared.totals.Totals.{Totals}
 use Rattle.ms_run.specs.Observing.{IsObserved, PutsAndSees}
 use Rattle.ms_run.specs.Seeing.{Sight, sight_of}
 use Rattle.ms_trace.specs.declared.trace.Line.{Line}

@@ -8,8 +8,8 @@ use Rattle.clap.specs.Matches.{ReadsOne}
 use Rattle.clap.specs.Words.{Row, Text, first_of, one_of}
 use Rattle.ms_base.specs.declared.policy.Policy.{Policy}
 use Rattle.ms_base.specs.declared.policy.Policy.TheVariants.{Balanced, Aggressive, None as NonePolicy}
-use Rattle.ms_loaders.specs.declared.details.Detail.{Detail}
-use Rattle.ms_loaders.specs.declared.details.Detail.TheVariants.{Basic, Full}
+use Rattle.ms_answers.specs.declared.details.Detail.{Detail}
+use Rattle.ms_answers.specs.declared.details.Detail.TheVariants.{Basic, Full}
 use Rattle.metarun.specs.declared.asked.Form.{Form}
 use Rattle.metarun.specs.declared.asked.Form.TheVariants.{Text as TextForm, Html, Json}
 use Rattle.metarun.specs.Asked.{ReadsDetail, ReadsForm, ReadsNumber, ReadsPolicy, number_of}

@@ -11,14 +11,14 @@ use Rattle.ms_base.specs.declared.step.Reply.{Reply}
 use Rattle.ms_trace.specs.declared.trace.Command.{Command}
 use Rattle.ms_trace.specs.declared.trace.Command.TheVariants.{Step as Asks, Sync, Report}
 use Rattle.ms_trace.specs.declared.trace.Line.{Line}
-use Rattle.ms_loaders.specs.Details.{DetailSums, details_in, details_of, told_in}
-use Rattle.ms_loaders.specs.Sums.{sums_in}
-use Rattle.ms_loaders.specs.declared.details.Detail.{Detail}
-use Rattle.ms_loaders.specs.declared.details.Detail.TheVariants.{Basic, Full}
-use Rattle.ms_loaders.specs.declared.details.Details.{Details}
-use Rattle.ms_loaders.specs.declared.peaks.Peaks.{Peaks}
-use Rattle.ms_loaders.specs.declared.totals.Totals.{Totals}
-use Rattle.ms_loaders.specs.declared.replies.Answer.{Answer}
+use Rattle.ms_answers.specs.Details.{DetailSums, details_in, details_of, told_in}
+use Rattle.ms_answers.specs.Sums.{sums_in}
+use Rattle.ms_answers.specs.declared.details.Detail.{Detail}
+use Rattle.ms_answers.specs.declared.details.Detail.TheVariants.{Basic, Full}
+use Rattle.ms_answers.specs.declared.details.Details.{Details}
+use Rattle.ms_answers.specs.declared.peaks.Peaks.{Peaks}
+use Rattle.ms_answers.specs.declared.totals.Totals.{Totals}
+use Rattle.ms_answers.specs.declared.replies.Answer.{Answer}
 use Rattle.ms_report.specs.Detailed.{detailed_text}
 use Rattle.ms_report.specs.Refused.{refusals_of}
 use Rattle.ms_report.specs.declared.refused.Refusals.{Refusals}

@@ -10,10 +10,10 @@ use Rattle.ms_course.specs.Gathering.{CourseView, Gathers, schedule_of}
 use Rattle.ms_course.specs.declared.course.LoaderThen.{LoaderThen}
 use Rattle.ms_course.specs.declared.moment.Moment.{Moment}
 use Rattle.ms_course.specs.declared.schedule.Schedule.{Schedule}
-use Rattle.ms_loaders.specs.Sums.{row_in, sums_in}
-use Rattle.ms_loaders.specs.declared.replies.Answer.{Answer}
-use Rattle.ms_loaders.specs.declared.totals.LoaderRow.{LoaderRow}
-use Rattle.ms_loaders.specs.declared.totals.Totals.{Totals}
+use Rattle.ms_answers.specs.Sums.{row_in, sums_in}
+use Rattle.ms_answers.specs.declared.replies.Answer.{Answer}
+use Rattle.ms_answers.specs.declared.totals.LoaderRow.{LoaderRow}
+use Rattle.ms_answers.specs.declared.totals.Totals.{Totals}
 use Rattle.ms_run.specs.Course.{Course, begun}
 use Rattle.ms_run.specs.Observing.{AreSeen, IsObserved, PutsAndSees}
 use Rattle.ms_run.specs.Seeing.{Sight}

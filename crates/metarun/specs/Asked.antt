@@ -5,8 +5,8 @@ use Rattle.std.specs.Str.Parse.{digits_value, without_leading_plus}
 use Rattle.clap.specs.Words.{App, IsUnsignedIn, Row, Text, first_of, matches_of, one_of}
 use Rattle.ms_base.specs.declared.policy.Policy.{Policy}
 use Rattle.ms_base.specs.declared.policy.Policy.TheVariants as policy
-use Rattle.ms_loaders.specs.declared.details.Detail.{Detail}
-use Rattle.ms_loaders.specs.declared.details.Detail.TheVariants.{Basic, Full}
+use Rattle.ms_answers.specs.declared.details.Detail.{Detail}
+use Rattle.ms_answers.specs.declared.details.Detail.TheVariants.{Basic, Full}
 use Rattle.metarun.specs.CommandLine.{IsCommandLine}
 use Rattle.metarun.specs.declared.asked.Form.{Form}
 use Rattle.metarun.specs.declared.asked.Form.TheVariants as form

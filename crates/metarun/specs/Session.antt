@@ -12,13 +12,13 @@ use Rattle.ms_trace.specs.declared.trace.Line.{Line}
 use Rattle.ms_trace.specs.declared.trace.Trace.{Trace}
 use Rattle.ms_trace.specs.Spelling.{ReadsAs}
 use Rattle.ms_trace.specs.Steps.{step_of}
-use Rattle.ms_loaders.specs.Details.{details_of}
-use Rattle.ms_loaders.specs.declared.peaks.Peaks.{Peaks}
-use Rattle.ms_loaders.specs.declared.replies.Answer.{Answer}
+use Rattle.ms_answers.specs.Details.{details_of}
+use Rattle.ms_answers.specs.declared.peaks.Peaks.{Peaks}
+use Rattle.ms_answers.specs.declared.replies.Answer.{Answer}
 use Rattle.ms_report.specs.Detailed.{detailed_text}
 use Rattle.ms_report.specs.Refused.{refusals_of}
 use Rattle.ms_report.specs.ReplyLines.{answers_text}
-use Rattle.ms_loaders.specs.declared.totals.Totals.{Totals}
+use Rattle.ms_answers.specs.declared.totals.Totals.{Totals}
 use Rattle.serde_json.specs.Written.{compact_text}
 use Rattle.ms_course.specs.Course.{ColumnsView, Shows}
 use Rattle.ms_json.specs.Document.{document}

@@ -8,10 +8,10 @@ use Rattle.ms_base.specs.State.{Machine, limits_of}
 use Rattle.ms_base.specs.Totals.{sums_of, LoaderRow as RowSums}
 use Rattle.ms_course.specs.Gathering.{CourseView, Gathers, schedule_of}
 use Rattle.ms_course.specs.declared.course.LoaderThen.{LoaderThen}
-use Rattle.ms_loaders.specs.declared.replies.Answer.{Answer}
-use Rattle.ms_loaders.specs.Sums.{row_in}
-use Rattle.ms_loaders.specs.declared.totals.LoaderRow.{LoaderRow}
-use Rattle.ms_loaders.specs.declared.totals.Totals.{Totals}
+use Rattle.ms_answers.specs.declared.replies.Answer.{Answer}
+use Rattle.ms_answers.specs.Sums.{row_in}
+use Rattle.ms_answers.specs.declared.totals.LoaderRow.{LoaderRow}
+use Rattle.ms_answers.specs.declared.totals.Totals.{Totals}
 use Rattle.ms_run.specs.Observing.{IsObserved}
 use Rattle.ms_run.specs.Seeing.{Sight}
 use Rattle.ms_trace.specs.declared.trace.Command.{Command}

@@ -1,8 +1,8 @@
 //! What a run is asked to be, apart from how the command line says it.
 ghost use Rattle.std.specs.Prelude.{◌≤◌};
 
+use ms_answers::Detail;
 use ms_base::Settings;
-use ms_report::Detail;
 
 /// In which form the answers to a trace are written. This project's choice.
 #[derive(Clone, Copy)]

@@ -22,8 +22,8 @@ use crate::asked::{Form, Options};
 use clap::builder::ValueParser;
 use clap::error::ErrorKind;
 use clap::{Arg, ArgAction, ArgMatches, Command, value_parser};
+use ms_answers::Detail;
 use ms_base::{Policy, Settings};
-use ms_report::Detail;
 use std::alloc::{AllocError, Global};
 use std::convert::AsStr;
 

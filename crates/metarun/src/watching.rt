@@ -11,9 +11,10 @@ ghost use Rattle.ms_course.specs.Gathering.{Gathers};
 ghost use Rattle.ms_run.specs.declared.fault.RunFault.TheVariants as fault;
 
 use crate::charting::moment_after;
+use ms_answers::{Answer, AnswerSink, LoaderRow, Totals};
 use ms_base::{Reply, Settings, Step};
 use ms_course::{Course, LoaderThen, Schedule, Standing};
-use ms_loaders::{Answer, AnswerSink, LoaderRow, System, Totals};
+use ms_loaders::System;
 use ms_run::{Observer, RunFault, replay_observed};
 use ms_trace::{Command, Line, Trace};
 use std::alloc::{AllocError, Global};

@@ -18,7 +18,7 @@ use Rattle.ms_base.specs.State.{ArenaState}
 use Rattle.ms_base.specs.Transition.{with_allocated, zeroed}
 use Rattle.ms_arena.specs.Arena.{ArenaView, PlaceRefused, IsAskable, block_at}
 use Rattle.ms_arena.specs.Alloc.{TakesNew, AfterTake, AfterGrow, AsksChunk, FindsPlace, Allocates}
-use Rattle.ms_loaders.specs.Loader.{LoaderView, AllocatesBlock, NameRefused, with_state}
+use Rattle.ms_loader.specs.Loader.{LoaderView, AllocatesBlock, NameRefused, with_state}
 use Rattle.ms_pool.specs.NoChunks.{takes_none, grows_none}
 use Rattle.ms_c.specs.Member.{AnswersAlone, PlacesIn, alone_told}
 

@@ -6,7 +6,7 @@ use Rattle.ms_base.specs.declared.span.Block.{Block}
 use Rattle.ms_base.specs.declared.step.Reply.{Reply}
 use Rattle.ms_pool.specs.Account.{AccountState}
 use Rattle.ms_arena.specs.Arena.{account_of}
-use Rattle.ms_loaders.specs.Loader.{LoaderView}
+use Rattle.ms_loader.specs.Loader.{LoaderView}
 use Rattle.ms_shared.specs.declared.lock_rule.SeatView.{SeatView}
 use Rattle.ms_shared.specs.SeatView.{LockState, SeatState, HeldState, ServesBy, opened_by}
 use Rattle.ms_c.specs.declared.member.hosted.Hosted.{Hosted}

@@ -22,7 +22,7 @@ use Rattle.ms_pool.specs.Account.{AccountState}
 use Rattle.ms_pool.specs.Ledger.{Ledger}
 use Rattle.ms_arena.specs.Arena.{ArenaView}
 use Rattle.ms_arena.specs.Alloc.{TakesNew, AfterGrow, AsksChunk, FindsPlace, Allocates}
-use Rattle.ms_loaders.specs.Loader.{LoaderView, account_in, owner_in, new_loader, with_state, AllocatesBlock, FreesBlock}
+use Rattle.ms_loader.specs.Loader.{LoaderView, account_in, owner_in, new_loader, with_state, AllocatesBlock, FreesBlock}
 use Rattle.ms_loaders.proofs.steps.ServedLemmas.{KeepsOther, same_account}
 use Rattle.ms_loaders.proofs.steps.CallLemmas.{free_keeps}
 use Rattle.ms_loaders.proofs.steps.OutcomeLemmas.{placed_chunks}

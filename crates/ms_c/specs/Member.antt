@@ -21,9 +21,9 @@ use Rattle.ms_base.specs.Transition.{with_allocated, zeroed}
 use Rattle.ms_arena.specs.Arena.{IsAskable}
 use Rattle.ms_pool.specs.Account.{AccountState}
 use Rattle.ms_pool.specs.Ledger.{Ledger, empty_ledger}
-use Rattle.ms_loaders.specs.Loader.{LoaderView, account_in, new_loader, with_state, AllocatesBlock, NameRefused}
-use Rattle.ms_loaders.specs.Loader.{FreesBlock, LacksName}
-use Rattle.ms_loaders.specs.Sums.{AreSumsIn}
+use Rattle.ms_loader.specs.Loader.{LoaderView, account_in, new_loader, with_state, AllocatesBlock, NameRefused}
+use Rattle.ms_loader.specs.Loader.{FreesBlock, LacksName}
+use Rattle.ms_loader.specs.ArenaSums.{AreSumsIn}
 use Rattle.ms_loaders.specs.declared.system.sums.LoaderTotals.{LoaderTotals}
 use Rattle.ms_shared.specs.declared.lock_rule.SeatView.{SeatView}
 use Rattle.ms_shared.specs.SeatView.{LockState, SeatState, HeldState, ServesBy, opened_by, new_seats}

@@ -5,7 +5,7 @@ ghost use Rattle.std.specs.List.{range_with_len};
 ghost use Rattle.ms_base.specs.Committed.{is_among};
 ghost use Rattle.ms_base.specs.Names.{named};
 ghost use Rattle.ms_base.specs.Transition.{LacksLoader};
-ghost use Rattle.ms_loaders.specs.Used.{used_if};
+ghost use Rattle.ms_loader_map.specs.Used.{used_if};
 ghost use Rattle.ms_c.specs.Answers.{numbers};
 ghost use Rattle.ms_c.specs.Holder.{TellsHolder};
 ghost use Rattle.ms_c.specs.Sums.{AreTotals, AreBits, bit_at, counts_of, TellsLoader};

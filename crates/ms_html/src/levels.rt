@@ -2,8 +2,8 @@
 //! words.
 use crate::replay::Replay;
 use crate::writer::Writer;
+use ms_answers::SpaceTotals;
 use ms_base::ROOT_WORDS;
-use ms_loaders::SpaceTotals;
 use ms_page::scaled;
 
 /// The units of a bar.

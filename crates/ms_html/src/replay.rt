@@ -1,7 +1,7 @@
 //! What a page is written of.
+use ms_answers::Totals;
 use ms_base::Settings;
 use ms_course::{Column, Course};
-use ms_loaders::Totals;
 use ms_page::{Facts, Holding, Picture};
 use std::alloc::Global;
 use std::collections::BTreeMap;

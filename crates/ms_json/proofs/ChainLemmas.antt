@@ -7,8 +7,8 @@ use Rattle.std.proofs.lemmas.List.{drop_more}
 use Rattle.json.specs.Print.{quoted}
 use Rattle.serde_json.specs.Data.{Data}
 use Rattle.serde_json.specs.Written.{comma_if, compact_text, members_text}
-use Rattle.ms_loaders.specs.Details.{loader_in}
-use Rattle.ms_loaders.specs.declared.details.LoaderDetails.{LoaderDetails}
+use Rattle.ms_answers.specs.Details.{loader_in}
+use Rattle.ms_answers.specs.declared.details.LoaderDetails.{LoaderDetails}
 use Rattle.ms_report.proofs.TextLemmas.{adds_two, adds_then}
 use Rattle.ms_json.specs.Names.{name_data, name_rows}
 use Rattle.ms_json.specs.Rows.{Row, elements_run, labelled, list_of, rows_then}

@@ -12,8 +12,8 @@ use Rattle.ms_base.specs.declared.step.Reply.{Reply}
 use Rattle.ms_base.specs.declared.step.Reply.TheVariants.{Ok as Done, At, Value, Refused}
 use Rattle.ms_base.specs.declared.settings.Settings.{Settings}
 use Rattle.ms_course.specs.declared.column.Column.{Column}
-use Rattle.ms_loaders.specs.declared.replies.Answer.{Answer}
-use Rattle.ms_loaders.specs.declared.totals.Totals.{Totals}
+use Rattle.ms_answers.specs.declared.replies.Answer.{Answer}
+use Rattle.ms_answers.specs.declared.totals.Totals.{Totals}
 use Rattle.ms_report.specs.Refused.{AreFew, is_refused_as, refusals_of, with_reply}
 use Rattle.ms_report.specs.ReplyLines.{replies_in}
 use Rattle.ms_report.specs.declared.refused.Refusals.{Refusals}

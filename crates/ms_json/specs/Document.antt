@@ -11,11 +11,11 @@ use Rattle.ms_base.specs.declared.settings.Settings.{Settings}
 use Rattle.ms_base.specs.declared.step.Reply.{Reply}
 use Rattle.ms_base.specs.declared.step.Reply.TheVariants.{Ok as Done, At, Value, Refused}
 use Rattle.ms_course.specs.declared.column.Column.{Column}
-use Rattle.ms_loaders.specs.Details.{DetailSums, told_in}
-use Rattle.ms_loaders.specs.Sums.{sums_in}
-use Rattle.ms_loaders.specs.declared.peaks.Peaks.{Peaks}
-use Rattle.ms_loaders.specs.declared.replies.Answer.{Answer}
-use Rattle.ms_loaders.specs.declared.totals.Totals.{Totals}
+use Rattle.ms_answers.specs.Details.{DetailSums, told_in}
+use Rattle.ms_answers.specs.Sums.{sums_in}
+use Rattle.ms_answers.specs.declared.peaks.Peaks.{Peaks}
+use Rattle.ms_answers.specs.declared.replies.Answer.{Answer}
+use Rattle.ms_answers.specs.declared.totals.Totals.{Totals}
 use Rattle.ms_report.specs.Refused.{refusals_of}
 use Rattle.ms_report.specs.ReplyLines.{replies_in}
 use Rattle.ms_report.specs.declared.refused.Refusals.{Refusals}

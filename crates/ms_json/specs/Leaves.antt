@@ -2,7 +2,7 @@
 use Rattle.std.specs.Prelude.{ℕ, List, [], ◌∷◌, Bool, true, ◌&&◌, map}
 use denote.Ref.{Bor}
 use Rattle.serde_json.specs.Data.{Data, null, string}
-use Rattle.ms_loaders.specs.Details.{arena_in}
+use Rattle.ms_answers.specs.Details.{arena_in}
 use Rattle.ms_report.specs.Map.{letters}
 use Rattle.ms_json.specs.Rows.{Row, is_plain, list_of, natural}
 use Rattle.ms_json.specs.Sums.{arena_data}

@@ -7,8 +7,8 @@ use Rattle.ms_base.specs.declared.kind.Kind.TheVariants.{Standard, Boot, Reflect
 use Rattle.ms_base.specs.declared.settings.Settings.{Settings}
 use Rattle.ms_base.specs.Policy.{granule_of}
 use Rattle.ms_base.specs.Totals.{SpaceSums, Sums}
-use Rattle.ms_loaders.specs.Details.{ArenaSums, LoaderSums}
-use Rattle.ms_loaders.specs.declared.peaks.Peaks.{Peaks}
+use Rattle.ms_answers.specs.Details.{ArenaSums, LoaderSums}
+use Rattle.ms_answers.specs.declared.peaks.Peaks.{Peaks}
 use Rattle.ms_pool.specs.Mapping.{RootCells}
 use Rattle.ms_report.specs.Kinds.{kinds_of}
 use Rattle.ms_report.specs.Layout.{kind_text}

@@ -1,7 +1,7 @@
 //! The document of a run, put together as answers come.
 ghost use Rattle.std.specs.Prelude.{◌≡◌, ◌++◌, ◌∷◌, [], true, List, IfOk, OnOk, codes, string_bytes};
 ghost use Rattle.serde_json.specs.Written.{compact_text};
-ghost use Rattle.ms_loaders.specs.declared.replies.Answer.{Answer as AnswerOf};
+ghost use Rattle.ms_answers.specs.declared.replies.Answer.{Answer as AnswerOf};
 ghost use Rattle.ms_json.specs.Document.{DocumentView, Tells, document, last_rows, middle_rows};
 ghost use Rattle.ms_json.specs.Document.{no_answer, reported, told_by};
 ghost use Rattle.ms_json.specs.Rows.{elements_run, is_later, rows_then};
@@ -11,9 +11,9 @@ use crate::run::{Run, push_closed, push_told};
 use crate::series::push_course;
 use crate::state::{push_settings, push_state};
 use crate::writing::{push_comma, push_label, push_number, push_word};
+use ms_answers::{Answer, AnswerSink, Totals};
 use ms_base::Settings;
 use ms_course::Column;
-use ms_loaders::{Answer, AnswerSink, Totals};
 use ms_report::{Refusals, count, tally};
 use std::alloc::{AllocError, Global};
 use std::marker::Model;

@@ -5,8 +5,8 @@ ghost use Rattle.ms_json.specs.Leaves.{is_leaf, leaf_data};
 
 use crate::series::{Series, push_series};
 use crate::writing::{push_arena, push_cells, push_levels, push_number, push_word};
+use ms_arena::ArenaTotals;
 use ms_course::Column;
-use ms_loaders::ArenaTotals;
 use ms_pool::Cell;
 use std::alloc::AllocError;
 

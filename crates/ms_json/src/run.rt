@@ -7,8 +7,8 @@ ghost use Rattle.ms_json.specs.Rows.{elements_run, is_later, is_plain};
 ghost use Rattle.ms_json.specs.Document.{answer_data, closed, is_done, run_data, told_by, with_line};
 
 use crate::writing::{push_comma, push_number, push_word};
+use ms_answers::Answer;
 use ms_base::{Refusal, Reply};
-use ms_loaders::Answer;
 use std::alloc::AllocError;
 
 /// Lines one after the other that are answered `ok`, by the numbers of the first and the last.

@@ -3,8 +3,8 @@ ghost use Rattle.std.specs.Prelude.{◌≡◌, ◌++◌, ◌/◌, true, false, O
 ghost use Rattle.std.specs.Option.{option_map};
 ghost use Rattle.serde_json.specs.Written.{compact_text};
 ghost use Rattle.ms_pool.specs.Mapping.{map_in};
-ghost use Rattle.ms_loaders.specs.Details.{details_in, loader_in, told_in};
-ghost use Rattle.ms_loaders.specs.Sums.{space_in, sums_in};
+ghost use Rattle.ms_answers.specs.Details.{details_in, loader_in, told_in};
+ghost use Rattle.ms_answers.specs.Sums.{space_in, sums_in};
 ghost use Rattle.ms_report.specs.Layout.{kind_text};
 ghost use Rattle.ms_report.specs.Setup.{policy_text};
 ghost use Rattle.ms_json.specs.Rows.{elements_run, is_plain, list_of};
@@ -15,8 +15,8 @@ ghost use Rattle.ms_json.specs.Document.{totals_data};
 
 use crate::leaf::Leaf;
 use crate::writing::{push_comma, push_label, push_number, push_object};
+use ms_answers::{Details, LoaderDetails, Peaks, SpaceTotals, Totals};
 use ms_base::{Kind, Policy, Settings, granule};
-use ms_loaders::{Details, LoaderDetails, Peaks, SpaceTotals, Totals};
 use ms_pool::RootMap;
 use ms_report::{KindTotals, Kinds, Refusals, sum_kinds};
 use std::alloc::AllocError;

@@ -9,11 +9,11 @@ ghost use Rattle.ms_json.specs.Rows.{are_plain, elements_run, is_plain, list_of,
 ghost use Rattle.ms_json.specs.Rows.{number_rows, object_of};
 ghost use Rattle.ms_json.specs.Leaves.{are_leaves, leaf_rows};
 ghost use Rattle.ms_json.specs.Sums.{arena_data};
-ghost use Rattle.ms_loaders.specs.Details.{arena_in};
+ghost use Rattle.ms_answers.specs.Details.{arena_in};
 
 use crate::leaf::{Leaf, push_leaf};
 use itoa::Buffer;
-use ms_loaders::ArenaTotals;
+use ms_arena::ArenaTotals;
 use ms_pool::Cell;
 use ms_report::push_letters;
 use std::alloc::AllocError;

@@ -26,7 +26,7 @@ use Rattle.ms_pool.specs.Calls.{tallied}
 use Rattle.ms_pool.specs.Tallies.{Tallies}
 use Rattle.ms_pool.specs.Ledger.{Ledger, IsSoundLedger, Serves, state_in, held_in, committed_of, with_grown, with_lent}
 use Rattle.ms_pool.proofs.ledger.LoanAtLemmas.{contains_at}
-use Rattle.ms_loaders.specs.Loader.{LoaderView, IsSoundView, AllocatesBlock, account_in, owner_in}
+use Rattle.ms_loader.specs.Loader.{LoaderView, IsSoundView, AllocatesBlock, account_in, owner_in}
 use Rattle.ms_loaders.specs.Serving.{AllocatesAt, AllocatesIn}
 use Rattle.ms_loaders.specs.System.{AreTogether, machine_of}
 use Rattle.ms_loaders.specs.Committing.{IsEdge, TellsRun, first_past, front_before, run_of}
@@ -38,7 +38,7 @@ use Rattle.ms_loaders.proofs.RunToldLemmas.{Over, came_in, run_is_backed, run_ca
 use Rattle.ms_loaders.proofs.AllocRunLemmas.{CommitsIn, grown_commits, lent_commits}
 use Rattle.ms_loaders.proofs.steps.AllocStepLemmas.{after_chunks}
 use Rattle.ms_loaders.proofs.steps.AskedLemmas.{outcome}
-use Rattle.ms_loaders.proofs.calls.LoaderSpaceLemmas.{chunk_in_space}
+use Rattle.ms_loader.proofs.calls.LoaderSpaceLemmas.{chunk_in_space}
 use Rattle.ms_loaders.proofs.steps.OutcomeLemmas.{GrewAtAll, GrownBy, IsMade, LentBy, TookAtAll}
 use Rattle.ms_loaders.proofs.steps.AlikeLemmas.{allocates_at_all}
 use Rattle.ms_loaders.proofs.steps.ServedLemmas.{apart_of}

@@ -18,7 +18,7 @@ use Rattle.ms_pool.specs.Ledger.{Loan, Ledger, Serves, chunks_of, is_owned_by}
 use Rattle.ms_pool.specs.Owners.{is_in_chunk, is_in_loan, owner_at}
 use Rattle.ms_pool.proofs.ledger.LoanLemmas.{owned_by}
 use Rattle.ms_loaders.specs.Holder.{has_owner, holds_word, is_holder, is_owner}
-use Rattle.ms_loaders.specs.Loader.{LoaderView, account_in}
+use Rattle.ms_loader.specs.Loader.{LoaderView, account_in}
 use Rattle.ms_loaders.specs.System.{accounts_of, owners_of, states_of}
 
 -- A loan of the word's owner has the word; where it has no owner no loan has it.

@@ -1,9 +1,4 @@
 mod TimesLemmas
-pub mod TableLemmas
-mod SlideLemmas
-mod BesideLemmas
-mod RefusedLemmas
-pub mod MappedLemmas
 mod HolderLemmas
 mod OneHolderLemmas
 mod CommitLemmas
@@ -13,8 +8,6 @@ mod AllocTellsLemmas
 mod EdgeLemmas
 mod ServingLemmas
 mod StepServedLemmas
-pub mod calls
-pub mod slots
 pub mod steps
 pub mod sums
 pub mod events

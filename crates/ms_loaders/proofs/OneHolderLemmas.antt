@@ -21,9 +21,9 @@ use Rattle.ms_base.specs.State.{LoaderState, arena_of, chunks_held}
 use Rattle.ms_base.proofs.arena.BlockLemmas.{not_in_other}
 use Rattle.ms_pool.specs.Owners.{is_in_chunk}
 use Rattle.ms_loaders.specs.Holder.{holds_word, is_holder}
-use Rattle.ms_loaders.specs.Loader.{LoaderView, IsSoundView}
+use Rattle.ms_loader.specs.Loader.{LoaderView, IsSoundView}
 use Rattle.ms_loaders.specs.System.{states_of}
-use Rattle.ms_loaders.proofs.calls.LoaderSpaceLemmas.{chunk_in_space}
+use Rattle.ms_loader.proofs.calls.LoaderSpaceLemmas.{chunk_in_space}
 
 -- A chunk that has the word meets each other that has it.
 meets_one : (word : ℕ) (c : Chunk) (cs : List Chunk) → is_in_chunk word c ≡ true

@@ -4,7 +4,7 @@ use Rattle.ms_base.specs.declared.kind.Kind.{Kind}
 use Rattle.ms_base.specs.declared.kind.Space.TheVariants.{NonClass, Class}
 use Rattle.ms_pool.specs.Account.{AccountState}
 use Rattle.ms_pool.specs.Source.{ServesBoth}
-use Rattle.ms_loaders.specs.Loader.{LoaderView, account_in, new_loader}
+use Rattle.ms_loader.specs.Loader.{LoaderView, account_in, new_loader}
 
 -- The accounts of a loader that was just made are those that it was made of.
 pub both_of_new : {S : Type 0} (serves : S → AccountState → Type 0) (source : S)

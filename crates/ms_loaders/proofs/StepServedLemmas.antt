@@ -18,7 +18,7 @@ use Rattle.ms_base.specs.State.{Machine}
 use Rattle.ms_base.specs.Transition.{Transition, LacksLoader}
 use Rattle.ms_base.proofs.entries.EntryLemmas.{Split, split_at}
 use Rattle.ms_pool.specs.Ledger.{Ledger, Serves, IsSoundLedger, opened_in}
-use Rattle.ms_loaders.specs.Loader.{LoaderView}
+use Rattle.ms_loader.specs.Loader.{LoaderView}
 use Rattle.ms_loaders.specs.System.{AreTogether, HasNoValue, IsNoRefusal}
 use Rattle.ms_loaders.specs.Serving.{MayServe, Served}
 use Rattle.ms_loaders.proofs.steps.StillTogetherLemmas.{own_served}

@@ -1,7 +1,6 @@
 -- Sums over loaders, and what settles.
 pub mod CollectLemmas
 pub mod TotalsLemmas
-pub mod SumsLemmas
 pub mod UsedLemmas
 pub mod DetailLemmas
 pub mod SettleLemmas

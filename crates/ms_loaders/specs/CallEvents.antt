@@ -17,7 +17,7 @@ use Rattle.ms_pool.specs.Account.{AccountState}
 use Rattle.ms_pool.specs.Lending.{MayTake, Adds, Grows, span_of}
 use Rattle.ms_pool.specs.Ledger.{Ledger}
 use Rattle.ms_pool.specs.Calls.{OpenedBoth, Took, Grew, ClosedBoth, Purged, Totalled, sums_in}
-use Rattle.ms_loaders.specs.Loader.{LoaderView, account_in, new_loader, with_state}
+use Rattle.ms_loader.specs.Loader.{LoaderView, account_in, new_loader, with_state}
 use Rattle.ms_loaders.specs.System.{machine_of, AreTogether}
 
 -- The event happens, with the answer, at the machine that pool and loaders are, and these belong

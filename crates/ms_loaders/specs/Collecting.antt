@@ -9,7 +9,7 @@ use Rattle.ms_base.specs.Part.{node_words}
 use Rattle.ms_base.specs.State.{LoaderState, arena_of}
 use Rattle.ms_base.specs.Totals.{LoaderRow, PoolSums, SpaceSums, used_of, kept_of, live_in, row_of}
 use Rattle.ms_arena.specs.declared.totals.ArenaTotals.{ArenaTotals}
-use Rattle.ms_loaders.specs.Sums.{row_in}
+use Rattle.ms_answers.specs.Sums.{row_in}
 use Rattle.ms_loaders.specs.declared.in_use.InUse.{InUse}
 use Rattle.ms_loaders.specs.declared.collecting.Gathered.{Gathered}
 

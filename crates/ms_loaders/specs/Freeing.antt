@@ -7,7 +7,7 @@ use Rattle.ms_base.specs.declared.step.Step.TheVariants.{Free}
 use Rattle.ms_base.specs.declared.step.Reply.TheVariants.{Ok as Done}
 use Rattle.ms_base.specs.State.{LoaderState, Machine}
 use Rattle.ms_base.specs.Transition.{HasLoader, LacksLoader, Transition}
-use Rattle.ms_loaders.specs.Finding.{HasRun}
+use Rattle.ms_loader.specs.Finding.{HasRun}
 
 -- The loader has a live block there, and it is freed as by its name.
 pub record FreesThere (old : Machine) (name : ℕ) (block : Block) (new : Machine) : Type 0 where

@@ -3,7 +3,7 @@ use Rattle.std.specs.Prelude.{ℕ, ◌==◌, ◌&&◌, ◌||◌, Bool}
 use Rattle.std.specs.List.{list_any}
 use Rattle.ms_base.specs.State.{LoaderState, Machine}
 use Rattle.ms_pool.specs.Owners.{is_in_chunk}
-use Rattle.ms_loaders.specs.Loader.{LoaderView}
+use Rattle.ms_loader.specs.Loader.{LoaderView}
 
 -- The word lies in a chunk of the loader, in either space.
 abbrev pub holds_word : ℕ → LoaderState → Bool

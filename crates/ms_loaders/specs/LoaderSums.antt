@@ -3,7 +3,7 @@ use Rattle.std.specs.Prelude.{◌≡◌, ℕ}
 use Rattle.ms_base.specs.declared.kind.Space.TheVariants.{NonClass, Class}
 use Rattle.ms_base.specs.State.{LoaderState, Machine}
 use Rattle.ms_base.specs.Transition.{HasLoader}
-use Rattle.ms_loaders.specs.Sums.{AreSumsIn}
+use Rattle.ms_loader.specs.ArenaSums.{AreSumsIn}
 use Rattle.ms_loaders.specs.declared.system.sums.LoaderTotals.{LoaderTotals}
 
 -- The totals are the kind of the loader of that name, and the sums over its arena in each space.

@@ -16,8 +16,8 @@ use Rattle.ms_base.specs.State.{Limits, LoaderState}
 use Rattle.ms_pool.specs.Account.{AccountState}
 use Rattle.ms_pool.specs.Source.{LeavesRest, ServesBoth}
 use Rattle.ms_arena.specs.Alloc.{TakeRelation, GrowRelation}
-use Rattle.ms_loaders.specs.Loader.{LoaderView, owner_in, account_in, new_loader, with_state, IsSoundView}
-use Rattle.ms_loaders.specs.Loader.{AllocatesBlock, HasWord, WritesWord, FreesBlock, LacksWord, LacksName}
+use Rattle.ms_loader.specs.Loader.{LoaderView, owner_in, account_in, new_loader, with_state, IsSoundView}
+use Rattle.ms_loader.specs.Loader.{AllocatesBlock, HasWord, WritesWord, FreesBlock, LacksWord, LacksName}
 
 -- What a source serves, counts and follows, and what its calls may answer and make of it.
 pub record SourceCalls (S : Type 0) : Type 1 where

@@ -3,7 +3,7 @@ use Rattle.std.specs.Prelude.{ℕ, ◌+◌, ◌*◌, ◌≤◌, List, length, Is
 use Rattle.std.specs.List.{All}
 use Rattle.ms_base.specs.Committed.{is_among}
 use Rattle.ms_pool.specs.Ledger.{Loan, Ledger, Serves}
-use Rattle.ms_loaders.specs.Loader.{LoaderView}
+use Rattle.ms_loader.specs.Loader.{LoaderView}
 use Rattle.ms_loaders.specs.System.{accounts_of, owners_of, AreDistinct}
 
 -- How many accounts a pool has open in both spaces, and how many the loaders have, two of each.

@@ -13,7 +13,7 @@ use Rattle.ms_base.specs.Committed.{is_among}
 use Rattle.ms_base.specs.State.{LoaderState, Machine}
 use Rattle.ms_pool.specs.Account.{AccountState}
 use Rattle.ms_pool.specs.Ledger.{Loan, Ledger, Serves, IsSoundLedger}
-use Rattle.ms_loaders.specs.Loader.{LoaderView, account_in, IsSoundView}
+use Rattle.ms_loader.specs.Loader.{LoaderView, account_in, IsSoundView}
 
 -- The states of loaders by name.
 abbrev pub states_of : List (ℕ × LoaderView) → List (ℕ × LoaderState)

@@ -1,18 +1,19 @@
 //! Collecting the totals of a system: one walk over its loaders, beside the pool's own sums.
 //!
 //! Apart because only a report asks for them, and no step does: nothing here sees a system. Only
-//! `gather` takes memory, for the rows, before it looks at a loader.
-ghost use Rattle.std.specs.Prelude.{◌≡◌, ◌+◌, ◌*◌, ◌<◌, ◌^◌, IfOk};
-ghost use Rattle.ms_loaders.specs.Sums.{space_in, row_in};
+//! `gather` and `gather_loaders` take memory, for the rows, before they look at a loader.
+ghost use Rattle.std.specs.Prelude.{◌≡◌, ◌+◌, ◌*◌, ◌<◌, ◌^◌, IfOk, map};
+ghost use Rattle.ms_answers.specs.Details.{loader_in, loader_sums};
+ghost use Rattle.ms_answers.specs.Sums.{space_in, row_in};
 ghost use Rattle.ms_loaders.specs.System.{states_of};
 ghost use Rattle.ms_loaders.specs.Collecting.{AreFew, IsGathered, row_made, space_made};
 ghost use Rattle.ms_pool.specs.Calls.{sums_in as pool_in};
 
 use crate::in_use::InUse;
-use crate::loaders::Loaders;
-use crate::totals::{LoaderRow, SpaceTotals};
+use ms_answers::{LoaderRow, SpaceTotals};
 use ms_arena::ArenaTotals;
 use ms_base::{Kind, NODE_WORDS};
+use ms_loader_map::Loaders;
 use ms_pool::PoolTotals;
 use std::alloc::{AllocError, Global};
 
@@ -89,4 +90,23 @@ pub fn space_totals(pool: PoolTotals, granule_words: u64, in_use: InUse) -> Spac
         held,
         free,
     }
+}
+
+/// Gathers the sums of each loader. Takes memory for the rows, and fails only where that is
+/// refused.
+pub fn gather_loaders(alloc: Global, loaders: &Loaders) -> Result<Vec<LoaderDetails>, AllocError>
+    ensures { IfOk result (λ rows. map loader_in rows.items
+        ≡ map loader_sums (states_of loaders.now)) }
+{
+    let mut rows = Vec::with_capacity(alloc, loaders.len())?;
+    for (name, loader) in loaders.iter() {
+        let (space, class_space) = loader.totals();
+        rows.push_reserved(LoaderDetails {
+            name: *name,
+            kind: loader.kind(),
+            space,
+            class_space,
+        });
+    }
+    Ok(rows)
 }

@@ -11,9 +11,9 @@ ghost use Rattle.std.specs.Prelude.{IfOk, IfErr};
 ghost use Rattle.ms_loaders.specs.Serving.{MayServe, Served, calls_of, AllocatesAt, AllocatesNone};
 ghost use Rattle.ms_loaders.specs.Serving.{AnswersNew, AnswersAlloc, AnswersWrite, AnswersRead, AnswersFree, AnswersUnload};
 
-use crate::loader::Loader;
-use crate::loaders::Loaders;
 use ms_base::{Kind, Refusal, Reply, Space, Step};
+use ms_loader::Loader;
+use ms_loader_map::Loaders;
 use ms_pool::AccountSource;
 use std::alloc::Global;
 

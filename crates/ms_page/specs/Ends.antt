@@ -1,7 +1,7 @@
 -- The loaders and the roots that totals have (this project's choice).
 use Rattle.std.specs.Prelude.{List, [], Option, Some, None}
-use Rattle.ms_loaders.specs.declared.details.Details.{Details}
-use Rattle.ms_loaders.specs.declared.details.LoaderDetails.{LoaderDetails}
+use Rattle.ms_answers.specs.declared.details.Details.{Details}
+use Rattle.ms_answers.specs.declared.details.LoaderDetails.{LoaderDetails}
 use Rattle.ms_pool.specs.declared.mapping.RootMap.{RootMap}
 
 -- The sums of each loader; none where there are no details.

@@ -9,7 +9,7 @@ use Rattle.ms_course.specs.declared.reason.Reason.TheVariants as reason
 use Rattle.ms_course.specs.declared.refusals.Refused.{Refused}
 use Rattle.ms_course.specs.declared.stretch.Stretch.{Stretch}
 use Rattle.ms_course.specs.Gathering.{CourseView, number_of}
-use Rattle.ms_loaders.specs.declared.totals.Totals.{Totals}
+use Rattle.ms_answers.specs.declared.totals.Totals.{Totals}
 use Rattle.ms_report.specs.Usage.{limit_of}
 use Rattle.ms_page.specs.declared.facts.Wants.{Wants}
 use Rattle.ms_page.specs.declared.tiles.Facts.{Facts}

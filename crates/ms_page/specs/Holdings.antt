@@ -2,7 +2,7 @@
 use Rattle.std.specs.Prelude.{ℕ, ◌+◌, nat_le, unwrap_or, if◌then◌else◌}
 use Rattle.ms_course.specs.declared.births.Birth.{Birth}
 use Rattle.ms_course.specs.Gathering.{CourseView, birth_in}
-use Rattle.ms_loaders.specs.declared.details.LoaderDetails.{LoaderDetails}
+use Rattle.ms_answers.specs.declared.details.LoaderDetails.{LoaderDetails}
 use Rattle.ms_page.specs.declared.holding.Growth.{Growth}
 use Rattle.ms_page.specs.declared.holding.Growth.TheVariants.{New}
 use Rattle.ms_page.specs.declared.holding.Holding.{Holding}

@@ -4,8 +4,8 @@ use Rattle.std.specs.List.{count_by, sum_by}
 use Rattle.ms_base.specs.declared.kind.Kind.{Kind}
 use Rattle.ms_base.specs.declared.kind.Kind.TheVariants.{Boot, Standard, Hidden, Reflection}
 use Rattle.ms_course.specs.declared.course.LoaderThen.{LoaderThen}
-use Rattle.ms_loaders.specs.Details.{loader_in}
-use Rattle.ms_loaders.specs.declared.details.LoaderDetails.{LoaderDetails}
+use Rattle.ms_answers.specs.Details.{loader_in}
+use Rattle.ms_answers.specs.declared.details.LoaderDetails.{LoaderDetails}
 use Rattle.ms_report.specs.Kinds.{kinds_of, same_kind}
 use Rattle.ms_report.specs.declared.kinds.KindTotals.{KindTotals}
 use Rattle.ms_page.specs.declared.kinds.KindHolding.{KindHolding}

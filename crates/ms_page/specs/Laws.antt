@@ -7,7 +7,7 @@ use Rattle.ms_course.specs.Gathering.{CourseView}
 use Rattle.ms_course.specs.declared.column.Column.{Column}
 use Rattle.ms_course.specs.declared.standing.Extent.{Extent}
 use Rattle.ms_course.specs.Standing.{IsNested}
-use Rattle.ms_loaders.specs.declared.details.LoaderDetails.{LoaderDetails}
+use Rattle.ms_answers.specs.declared.details.LoaderDetails.{LoaderDetails}
 use Rattle.ms_pool.specs.declared.mapping.RootMap.{RootMap}
 use Rattle.ms_page.specs.declared.cells.CellCounts.{CellCounts}
 use Rattle.ms_page.specs.declared.holding.Holding.{Holding}

@@ -3,7 +3,7 @@ use Rattle.std.specs.Prelude.{◌≡◌, List, map}
 use Rattle.ms_base.specs.declared.settings.Settings.{Settings}
 use Rattle.ms_course.specs.declared.standing.Standing.{Standing}
 use Rattle.ms_course.specs.Gathering.{CourseView}
-use Rattle.ms_loaders.specs.declared.details.LoaderDetails.{LoaderDetails}
+use Rattle.ms_answers.specs.declared.details.LoaderDetails.{LoaderDetails}
 use Rattle.ms_page.specs.declared.picture.Lists.{Lists}
 use Rattle.ms_page.specs.declared.picture.Picture.{Picture}
 use Rattle.ms_page.specs.Advice.{advice_of}

@@ -2,7 +2,7 @@
 ghost use Rattle.std.specs.Prelude.{◌≡◌};
 ghost use Rattle.ms_page.specs.Ends.{loaders_in, roots_in};
 
-use ms_loaders::{Details, LoaderDetails};
+use ms_answers::{Details, LoaderDetails};
 use ms_pool::RootMap;
 
 /// Lends the sums of each loader, none where there are no details.

@@ -13,9 +13,9 @@ use crate::ends::roots_in;
 use crate::peaks::peaks_of;
 use crate::sums::add;
 use crate::tiles::Facts;
+use ms_answers::Totals;
 use ms_base::{NODE_WORDS, Settings, granule};
 use ms_course::{Column, Course, Reason, Stretch};
-use ms_loaders::Totals;
 
 /// Lines that were refused for want of something, by what they want.
 #[derive(Clone, Copy)]

@@ -9,8 +9,8 @@ ghost use Rattle.ms_page.specs.Holdings.{held_by, holding_of, since_of};
 use crate::halfway::{live_at, live_by_name};
 use crate::holding::{Growth, Holding, growth_between};
 use crate::sums::add;
+use ms_answers::LoaderDetails;
 use ms_course::{Birth, Course};
-use ms_loaders::LoaderDetails;
 use std::alloc::{AllocError, Global};
 
 /// Makes the list of what each loader holds.

@@ -7,9 +7,9 @@ ghost use Rattle.ms_page.specs.Kinds.{kind_holding, kind_holdings, live_if, live
 ghost use Rattle.ms_page.specs.Kinds.{is_of_kind};
 
 use crate::sums::add;
+use ms_answers::LoaderDetails;
 use ms_base::Kind;
 use ms_course::LoaderThen;
-use ms_loaders::LoaderDetails;
 use ms_report::{KindTotals, sum_kinds};
 
 /// What the loaders of a kind hold. This project's choice.

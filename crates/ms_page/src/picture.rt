@@ -6,7 +6,7 @@
 //! Kept true: each part is exactly what `specs/Picture.antt` gives for the run, so whoever draws it
 //! adds no fact. Takes memory for the lists.
 ghost use Rattle.std.specs.Prelude.{◌≡◌, IfOk};
-ghost use Rattle.ms_loaders.specs.Sums.{sums_in};
+ghost use Rattle.ms_answers.specs.Sums.{sums_in};
 ghost use Rattle.ms_report.specs.Usage.{usages_of};
 ghost use Rattle.ms_page.specs.Cells.{cell_counts};
 ghost use Rattle.ms_page.specs.Ends.{loaders_in, roots_in};
@@ -26,9 +26,9 @@ use crate::largest::largest;
 use crate::peaks::{peaks_of, with_reserved};
 use crate::stays::stays;
 use crate::tiles::{Facts, Tiles};
+use ms_answers::{LoaderDetails, Totals};
 use ms_base::Settings;
 use ms_course::{Course, Standing};
-use ms_loaders::{LoaderDetails, Totals};
 use ms_report::{Usages, weigh};
 use std::alloc::{AllocError, Global};
 

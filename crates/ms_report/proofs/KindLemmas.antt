@@ -7,8 +7,8 @@ use Rattle.std.proofs.lemmas.List.{map-append, take_more, drop_more, length-appe
 use Rattle.std.proofs.lemmas.List.Elements.{filter-append}
 use Rattle.std.proofs.lemmas.List.Sums.{sum_by_push}
 use Rattle.ms_base.specs.declared.kind.Kind.{Kind}
-use Rattle.ms_loaders.specs.Details.{LoaderSums, loader_in}
-use Rattle.ms_loaders.specs.declared.details.LoaderDetails.{LoaderDetails}
+use Rattle.ms_answers.specs.Details.{LoaderSums, loader_in}
+use Rattle.ms_answers.specs.declared.details.LoaderDetails.{LoaderDetails}
 use Rattle.ms_report.specs.declared.kinds.KindTotals.{KindTotals}
 use Rattle.ms_report.specs.Holdings.{holdings, all_holdings}
 use Rattle.ms_report.specs.Kinds.{IsBelow, in_both, is_of, same_kind, sums_over, with_loader}

@@ -14,7 +14,7 @@ use Rattle.ms_base.specs.declared.kind.Kind.{Kind}
 use Rattle.ms_base.specs.declared.kind.Kind.TheVariants.{Standard, Boot, Reflection, Hidden}
 use Rattle.ms_base.specs.declared.kind.Space.{Space}
 use Rattle.ms_base.specs.declared.kind.Space.TheVariants.{NonClass, Class}
-use Rattle.ms_loaders.specs.Details.{ArenaSums, LoaderSums}
+use Rattle.ms_answers.specs.Details.{ArenaSums, LoaderSums}
 use Rattle.ms_report.specs.declared.kinds.KindTotals.{KindTotals}
 use Rattle.ms_report.specs.Kinds.{sum_columns, kind_table, kind_line, sum_texts}
 use Rattle.ms_report.specs.Holdings.{holding_table, holding_line, arena_texts, space_text}

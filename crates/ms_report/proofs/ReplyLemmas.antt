@@ -10,10 +10,10 @@ use Rattle.std.specs.declared.alloc.Global.{Global}
 use Rattle.ms_base.specs.ReplyText.{reply_line, reply_text}
 use Rattle.ms_base.specs.declared.settings.Settings.{Settings}
 use Rattle.ms_base.specs.declared.step.Reply.{Reply}
-use Rattle.ms_loaders.specs.declared.details.Detail.{Detail}
-use Rattle.ms_loaders.specs.declared.details.Detail.TheVariants.{Basic}
-use Rattle.ms_loaders.specs.declared.totals.Totals.{Totals}
-use Rattle.ms_loaders.specs.declared.replies.Answer.{Answer}
+use Rattle.ms_answers.specs.declared.details.Detail.{Detail}
+use Rattle.ms_answers.specs.declared.details.Detail.TheVariants.{Basic}
+use Rattle.ms_answers.specs.declared.totals.Totals.{Totals}
+use Rattle.ms_answers.specs.declared.replies.Answer.{Answer}
 use Rattle.ms_report.specs.AnswerText.{AnswerTextView, Tells, no_answer}
 use Rattle.ms_report.specs.Refused.{AreFew, by_name, is_refused_as, refusals_of, with_reply}
 use Rattle.ms_report.specs.ReplyLines.{answer_text, answers_text, later_text, replies_in, report_after}

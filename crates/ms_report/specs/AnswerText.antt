@@ -1,8 +1,8 @@
 -- The text of answers that come one by one (this project's choice).
 use Rattle.std.specs.Prelude.{◌≡◌, ℕ, Bool, List, []}
 use Rattle.ms_base.specs.declared.settings.Settings.{Settings}
-use Rattle.ms_loaders.specs.declared.details.Detail.{Detail}
-use Rattle.ms_loaders.specs.declared.replies.Answer.{Answer}
+use Rattle.ms_answers.specs.declared.details.Detail.{Detail}
+use Rattle.ms_answers.specs.declared.replies.Answer.{Answer}
 use Rattle.ms_report.specs.Refused.{refusals_of}
 use Rattle.ms_report.specs.ReplyLines.{answers_text, replies_in}
 use Rattle.ms_report.specs.declared.refused.Refusals.{Refusals}

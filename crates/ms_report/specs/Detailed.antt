@@ -4,13 +4,13 @@ use Rattle.std.specs.Prelude.{ℕ, ◌/◌, ◌%◌, ◌==◌, List, [], ◌∷�
 use Rattle.std.specs.Fmt.{decimal}
 use Rattle.ms_base.specs.declared.settings.Settings.{Settings}
 use Rattle.ms_base.specs.Totals.{Sums}
-use Rattle.ms_loaders.specs.Details.{DetailSums}
-use Rattle.ms_loaders.specs.declared.details.Detail.{Detail}
-use Rattle.ms_loaders.specs.declared.details.Detail.TheVariants.{Basic, Full}
+use Rattle.ms_answers.specs.Details.{DetailSums}
+use Rattle.ms_answers.specs.declared.details.Detail.{Detail}
+use Rattle.ms_answers.specs.declared.details.Detail.TheVariants.{Basic, Full}
 use Rattle.ms_report.specs.declared.usage.Amount.{Amount}
 use Rattle.ms_report.specs.declared.usage.Usage.{Usage}
 use Rattle.ms_report.specs.declared.usage.Usages.{Usages}
-use Rattle.ms_loaders.specs.declared.peaks.Peaks.{Peaks}
+use Rattle.ms_answers.specs.declared.peaks.Peaks.{Peaks}
 use Rattle.ms_report.specs.Layout.{left_in, right_in}
 use Rattle.ms_report.specs.Peaks.{peaks_part}
 use Rattle.ms_report.specs.Sizes.{pointed, size_in}

@@ -4,7 +4,7 @@ use Rattle.std.specs.Prelude.{ℕ, ◌==◌, List, [], ◌∷◌, ◌++◌, code
 use Rattle.std.specs.Fmt.{decimal}
 use Rattle.ms_base.specs.declared.kind.Space.{Space}
 use Rattle.ms_base.specs.declared.kind.Space.TheVariants.{NonClass, Class}
-use Rattle.ms_loaders.specs.Details.{ArenaSums, LoaderSums}
+use Rattle.ms_answers.specs.Details.{ArenaSums, LoaderSums}
 use Rattle.ms_report.specs.Kinds.{sum_columns}
 use Rattle.ms_report.specs.Layout.{Table, table_line, header, kind_text}
 

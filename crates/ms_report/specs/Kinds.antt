@@ -5,7 +5,7 @@ use Rattle.std.specs.List.{filter, sum_by}
 use Rattle.std.specs.Fmt.{decimal}
 use Rattle.ms_base.specs.declared.kind.Kind.{Kind}
 use Rattle.ms_base.specs.declared.kind.Kind.TheVariants.{Standard, Boot, Reflection, Hidden}
-use Rattle.ms_loaders.specs.Details.{ArenaSums, LoaderSums}
+use Rattle.ms_answers.specs.Details.{ArenaSums, LoaderSums}
 use Rattle.ms_report.specs.declared.kinds.KindTotals.{KindTotals}
 use Rattle.ms_report.specs.declared.kinds.Kinds.{Kinds}
 use Rattle.ms_report.specs.Layout.{Table, table_line, header, kind_text}

@@ -9,7 +9,7 @@ use Rattle.ms_base.specs.declared.step.Reply.{Reply}
 use Rattle.ms_base.specs.Good.{IsGood}
 use Rattle.ms_base.specs.State.{Machine}
 use Rattle.ms_base.specs.Totals.{LoaderRow, space_sums}
-use Rattle.ms_loaders.specs.Details.{ArenaSums, LoaderSums}
+use Rattle.ms_answers.specs.Details.{ArenaSums, LoaderSums}
 use Rattle.ms_report.specs.declared.kinds.KindTotals.{KindTotals}
 use Rattle.ms_report.specs.Kinds.{kind_table, kind_line}
 use Rattle.ms_report.specs.Holdings.{holding_table, holding_line}

@@ -4,7 +4,7 @@ use Rattle.std.specs.Fmt.{decimal}
 use Rattle.ms_base.specs.declared.settings.Settings.{Settings}
 use Rattle.ms_base.specs.Part.{node_words}
 use Rattle.ms_base.specs.Policy.{granule_of}
-use Rattle.ms_loaders.specs.declared.peaks.Peaks.{Peaks}
+use Rattle.ms_answers.specs.declared.peaks.Peaks.{Peaks}
 use Rattle.ms_report.specs.Layout.{left_in, number_line, right_in}
 use Rattle.ms_report.specs.Sizes.{size_in}
 

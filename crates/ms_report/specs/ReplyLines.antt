@@ -3,12 +3,12 @@ use Rattle.std.specs.Prelude.{ℕ, Bool, List, [], ◌∷◌, ◌++◌, Option, 
 use Rattle.std.specs.declared.alloc.Global.{Global}
 use Rattle.ms_base.specs.declared.step.Reply.{Reply}
 use Rattle.ms_base.specs.ReplyText.{reply_line}
-use Rattle.ms_loaders.specs.declared.totals.Totals.{Totals}
-use Rattle.ms_loaders.specs.declared.replies.Answer.{Answer}
-use Rattle.ms_loaders.specs.Sums.{sums_in}
-use Rattle.ms_loaders.specs.Details.{told_in}
+use Rattle.ms_answers.specs.declared.totals.Totals.{Totals}
+use Rattle.ms_answers.specs.declared.replies.Answer.{Answer}
+use Rattle.ms_answers.specs.Sums.{sums_in}
+use Rattle.ms_answers.specs.Details.{told_in}
 use Rattle.ms_base.specs.declared.settings.Settings.{Settings}
-use Rattle.ms_loaders.specs.declared.details.Detail.{Detail}
+use Rattle.ms_answers.specs.declared.details.Detail.{Detail}
 use Rattle.ms_report.specs.Detailed.{detailed_text}
 use Rattle.ms_report.specs.Refused.{refusals_of}
 use Rattle.ms_report.specs.declared.refused.Refusals.{Refusals}

@@ -7,15 +7,15 @@
 //! text has bytes, so no count wraps. Stands on `reply_lines`. Takes memory for the text alone.
 ghost use Rattle.std.specs.Prelude.{◌≡◌, ◌++◌, ◌∷◌, [], List, IfOk, OnErr, OnOk, string_bytes};
 ghost use Rattle.ms_base.specs.declared.settings.Settings.{Settings as SettingsOf};
-ghost use Rattle.ms_loaders.specs.declared.replies.Answer.{Answer as AnswerOf};
+ghost use Rattle.ms_answers.specs.declared.replies.Answer.{Answer as AnswerOf};
 ghost use Rattle.ms_report.specs.AnswerText.{AnswerTextView, Tells, no_answer};
 ghost use Rattle.ms_report.specs.ReplyLines.{answers_text};
 
 use crate::done_line::DoneLine;
 use crate::refused::{NONE, Refusals, count};
 use crate::reply_lines::push_answer;
+use ms_answers::{Answer, AnswerSink, Detail, Replies};
 use ms_base::Settings;
-use ms_loaders::{Answer, AnswerSink, Detail, Replies};
 use std::alloc::{AllocError, Global};
 use std::marker::Model;
 

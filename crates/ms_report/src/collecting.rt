@@ -1,9 +1,10 @@
 //! The totals of a system: what a report shows of it.
 ghost use Rattle.std.specs.Prelude.{◌≡◌, IfOk};
 ghost use Rattle.ms_base.specs.Totals.{sums_of};
-ghost use Rattle.ms_loaders.specs.Sums.{sums_in};
+ghost use Rattle.ms_answers.specs.Sums.{sums_in};
 
-use ms_loaders::{System, Totals};
+use ms_answers::Totals;
+use ms_loaders::System;
 use std::alloc::AllocError;
 
 /// Gathers the totals of a system, each a sum over the machine that it stands for, with a row for

@@ -12,9 +12,9 @@
 //! `specs/Detailed.antt` gives for the totals, the details, the settings, the counts of refusals
 //! and the peaks. Takes memory for the text alone.
 ghost use Rattle.std.specs.Prelude.{◌≡◌, ◌++◌, IfOk, OnOk, string_bytes};
-ghost use Rattle.ms_loaders.specs.Sums.{sums_in};
+ghost use Rattle.ms_answers.specs.Sums.{sums_in};
 ghost use Rattle.ms_report.specs.Cells.{rows_in};
-ghost use Rattle.ms_loaders.specs.Details.{details_in, told_in};
+ghost use Rattle.ms_answers.specs.Details.{details_in, told_in};
 ghost use Rattle.ms_report.specs.Detailed.{amount_line, amount_lines, class_usage, class_usages};
 ghost use Rattle.ms_report.specs.Detailed.{detailed_text, full_text, share_in};
 ghost use Rattle.ms_report.specs.Detailed.{details_part, maps_part};
@@ -31,8 +31,8 @@ use crate::sections::push_report;
 use crate::setup::push_settings;
 use crate::sizes::{push_pointed, push_sized};
 use crate::usage::{Amount, Usage, Usages, weigh};
+use ms_answers::{Detail, Details, Totals};
 use ms_base::Settings;
-use ms_loaders::{Detail, Details, Totals};
 use std::alloc::{AllocError, Global};
 
 /// The headings of a usage.

@@ -8,7 +8,7 @@
 //! Kept true: a loader has a line for each space in which it holds a chunk, and the text is the
 //! bytes that `specs/Holdings.antt` gives. Takes memory for the text alone.
 ghost use Rattle.std.specs.Prelude.{◌≡◌, ◌≤◌, ◌+◌, ◌++◌, OnOk, IsAscii, length, map, string_bytes};
-ghost use Rattle.ms_loaders.specs.Details.{arena_in, loader_in};
+ghost use Rattle.ms_answers.specs.Details.{arena_in, loader_in};
 ghost use Rattle.ms_report.specs.Kinds.{sum_columns};
 ghost use Rattle.ms_report.specs.Layout.{cells, right_in};
 ghost use Rattle.ms_report.specs.Holdings.{all_holdings, arena_texts, holding, holding_line};
@@ -17,8 +17,9 @@ ghost use Rattle.ms_report.specs.Holdings.{space_text};
 
 use crate::line::{COUNT, FREE_BLOCKS, Line, WORDS};
 use crate::sections::put_name;
+use ms_answers::LoaderDetails;
+use ms_arena::ArenaTotals;
 use ms_base::Space;
-use ms_loaders::{ArenaTotals, LoaderDetails};
 use std::alloc::AllocError;
 
 /// The title and the headings of the table.

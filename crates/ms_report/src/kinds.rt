@@ -7,7 +7,7 @@
 ghost use Rattle.std.specs.Prelude.{◌≡◌, ◌++◌, ◌+◌, ◌<◌, ◌^◌, ℕ, OnOk, IsAscii, codes, decimal};
 ghost use Rattle.std.specs.Prelude.{length, map, string_bytes};
 ghost use Rattle.std.specs.List.{filter};
-ghost use Rattle.ms_loaders.specs.Details.{loader_in};
+ghost use Rattle.ms_answers.specs.Details.{loader_in};
 ghost use Rattle.ms_report.specs.Layout.{cells, kind_text, right_in};
 ghost use Rattle.ms_report.specs.Kinds.{IsBelow, is_of, kind_line, kind_lines, kinds_of};
 ghost use Rattle.ms_report.specs.Kinds.{kinds_part, same_kind, sum_columns};
@@ -15,8 +15,8 @@ ghost use Rattle.ms_report.specs.Kinds.{sum_texts, sums_over, with_loader};
 
 use crate::layout::push_wides;
 use crate::line::{COUNT, FREE_BLOCKS, Line, WORDS};
+use ms_answers::LoaderDetails;
 use ms_base::Kind;
-use ms_loaders::LoaderDetails;
 use std::alloc::AllocError;
 
 /// The sums over the loaders of a kind, over both spaces. Of 128 bits, so that a sum always has

@@ -36,7 +36,6 @@ pub use collecting::totals;
 pub use detailed::full_text;
 pub use kinds::{KindTotals, Kinds, sum_kinds};
 pub use maps::{map_text, push_letters};
-pub use ms_loaders::Detail;
 pub use refused::{Refusals, count, tally};
 pub use sections::text;
 pub use usage::{Amount, Usage, Usages, weigh};

@@ -12,8 +12,8 @@ ghost use Rattle.ms_report.specs.Peaks.{all_peaks, amount_peaks, peaks_part, siz
 
 use crate::layout::push_number_line;
 use crate::sizes::push_sized;
+use ms_answers::Peaks;
 use ms_base::{NODE_WORDS, Settings, granule};
-use ms_loaders::Peaks;
 use std::alloc::AllocError;
 
 /// The title and the headings of the peaks.

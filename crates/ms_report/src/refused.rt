@@ -12,8 +12,8 @@ ghost use Rattle.ms_report.specs.Refused.{with_reply};
 ghost use Rattle.ms_report.specs.ReplyLines.{replies_in};
 
 use crate::layout::push_number_lines;
+use ms_answers::Answer;
 use ms_base::{Refusal, Reply};
-use ms_loaders::Answer;
 use std::alloc::AllocError;
 
 /// How many command lines were refused, by the name of the refusal, for each name that a line can

@@ -15,8 +15,8 @@ use crate::detailed::push_detailed;
 use crate::done_line::DoneLine;
 use crate::line::push_cut;
 use crate::refused::Refusals;
+use ms_answers::{Answer, Detail};
 use ms_base::{Refusal, Reply, Settings};
-use ms_loaders::{Answer, Detail};
 use std::alloc::AllocError;
 
 /// Appends the line of an answer, and its report, with the refusals of the answers before it.

@@ -5,7 +5,7 @@
 //! for the totals. `text` takes memory for the text alone.
 ghost use Rattle.std.specs.Prelude.{◌≡◌, ◌≤◌, ◌+◌, ◌++◌, IfOk, OnOk, string_bytes, codes, decimal};
 ghost use Rattle.std.specs.Prelude.{length, map};
-ghost use Rattle.ms_loaders.specs.Sums.{sums_in, space_in, row_in};
+ghost use Rattle.ms_answers.specs.Sums.{sums_in, space_in, row_in};
 ghost use Rattle.ms_report.specs.Layout.{number_lines, space_rows, kind_text, level_table};
 ghost use Rattle.ms_report.specs.Layout.{level_texts, loader_table};
 ghost use Rattle.ms_report.specs.Layout.{loader_lines, loader_texts, right_in, table_line};
@@ -16,8 +16,8 @@ use crate::columns::push_four;
 use crate::kinds::kind_cell;
 use crate::layout::{push_number_line, push_number_lines};
 use crate::line::{COUNT, Line, NAME, WORDS};
+use ms_answers::{LoaderRow, SpaceTotals, Totals};
 use ms_base::{Kind, Level};
-use ms_loaders::{LoaderRow, SpaceTotals, Totals};
 use std::alloc::{AllocError, Global};
 
 /// The headings of the table of levels.

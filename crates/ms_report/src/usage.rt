@@ -8,12 +8,12 @@
 //! Kept true: an amount is exactly that of the totals, and a share is cut off after one digit.
 //! Takes no memory.
 ghost use Rattle.std.specs.Prelude.{◌≡◌, ◌<◌, ◌^◌};
-ghost use Rattle.ms_loaders.specs.Sums.{space_in, sums_in};
+ghost use Rattle.ms_answers.specs.Sums.{space_in, sums_in};
 ghost use Rattle.ms_report.specs.Usage.{AreSmall, amount_of, both_words, usage_of};
 ghost use Rattle.ms_report.specs.Usage.{usages_of, words_of};
 
+use ms_answers::{SpaceTotals, Totals};
 use ms_base::{Settings, granule};
-use ms_loaders::{SpaceTotals, Totals};
 
 /// An amount of memory. Of 128 bits, so that the sum over both spaces always has room.
 #[derive(Clone, Copy, Debug)]

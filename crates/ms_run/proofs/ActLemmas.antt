@@ -9,7 +9,7 @@ use Rattle.ms_pool.specs.Ledger.{Ledger, with_both_closed, Serves as ServesIn}
 use Rattle.ms_pool.specs.Source.{ServesBoth}
 use Rattle.ms_pool.specs.Calls.{ClosedBoth}
 use Rattle.ms_shared.proofs.LockCloseLemmas.{both_served_by_pool}
-use Rattle.ms_loaders.specs.Loader.{LoaderView, account_in}
+use Rattle.ms_loader.specs.Loader.{LoaderView, account_in}
 use Rattle.ms_shared.specs.History.{Event}
 use Rattle.ms_shared.specs.SeatView.{SeatState, ServesBy, OverLock}
 use Rattle.ms_base.specs.Run.Own.{Said}

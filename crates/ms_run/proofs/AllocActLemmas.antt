@@ -20,7 +20,7 @@ use Rattle.ms_pool.proofs.ledger.GrewLemmas.{grow_refused_raises}
 use Rattle.ms_arena.specs.Arena.{ArenaView, account_of}
 use Rattle.ms_arena.specs.Alloc.{with_block_grown, TakesNew, GrowsCurrent, AfterTake, AfterGrow, AsksChunk, FindsPlace}
 use Rattle.ms_arena.specs.Alloc.{Allocates}
-use Rattle.ms_loaders.specs.Loader.{LoaderView, account_in, AllocatesBlock}
+use Rattle.ms_loader.specs.Loader.{LoaderView, account_in, AllocatesBlock}
 use Rattle.ms_shared.specs.History.{Event}
 use Rattle.ms_shared.specs.SeatView.{SeatState, ServesBy, OverLock}
 use Rattle.ms_shared.specs.LockCalls.{TookOver, GrewOver}

@@ -18,11 +18,11 @@ use Rattle.ms_base.specs.Request.{alloc_in}
 use Rattle.ms_base.proofs.entries.LookupLemmas.{named_new_same, named_new_other, named_changed_same}
 use Rattle.ms_pool.specs.Account.{AccountState}
 use Rattle.ms_pool.specs.Ledger.{Ledger}
-use Rattle.ms_loaders.specs.Loader.{LoaderView, account_in, new_loader}
+use Rattle.ms_loader.specs.Loader.{LoaderView, account_in, new_loader}
 use Rattle.ms_loaders.specs.Serving.{SourceCalls, calls_of, MakesLoader, MakesInVain, MakesNone}
 use Rattle.ms_loaders.specs.Serving.{AllocatesIn, AllocatesAt, AllocatesNone}
 use Rattle.ms_loaders.specs.System.{states_of}
-use Rattle.ms_loaders.specs.Used.{used_at}
+use Rattle.ms_loader_map.specs.Used.{used_at}
 use Rattle.ms_loaders.proofs.steps.CallLemmas.{same_loaders}
 use Rattle.ms_shared.specs.SeatView.{SeatState, ServesBy, OverLock, opened_by}
 use Rattle.ms_shared.specs.LockCalls.{TookOver, GrewOver, OpenedBothOver, ClosedBothOver, PurgedOver}

@@ -15,10 +15,10 @@ use Rattle.ms_base.specs.Request.{loader_of}
 use Rattle.ms_base.proofs.entries.LookupLemmas.{named_changed_same, named_without_other}
 use Rattle.ms_pool.specs.Ledger.{Ledger, opened_in}
 use Rattle.ms_pool.proofs.ledger.ClosedLemmas.{purged_leaves_served}
-use Rattle.ms_loaders.specs.Loader.{LoaderView, WritesWord, FreesBlock, HasWord, LacksWord, LacksName}
+use Rattle.ms_loader.specs.Loader.{LoaderView, WritesWord, FreesBlock, HasWord, LacksWord, LacksName}
 use Rattle.ms_loaders.specs.Serving.{MayServe, Served, ChangesOne, LooksAt, IsLacking, FindsNone, ClosesLoader}
 use Rattle.ms_loaders.specs.System.{states_of}
-use Rattle.ms_loaders.specs.Used.{used_at}
+use Rattle.ms_loader_map.specs.Used.{used_at}
 use Rattle.ms_shared.specs.SeatView.{SeatState, ServesBy, opened_by}
 use Rattle.ms_shared.specs.LockCalls.{PurgedOver}
 use Rattle.ms_shared.proofs.LockCallLemmas.{served_by_pool, serves_then, counts_stay}

@@ -22,7 +22,7 @@ use Rattle.ms_pool.specs.Ledger.{with_less_open}
 use Rattle.ms_pool.specs.Calls.{ClosedBoth}
 use Rattle.ms_pool.proofs.returns.PoolSettleLemmas.{settled_already}
 use Rattle.ms_pool.proofs.ledger.GrewLemmas.{grow_refused_raises}
-use Rattle.ms_loaders.specs.Loader.{LoaderView, account_in, new_loader}
+use Rattle.ms_loader.specs.Loader.{LoaderView, account_in, new_loader}
 use Rattle.ms_shared.specs.History.{Event, Logged, Chain, events_in, events_of, AreBelow}
 use Rattle.ms_shared.specs.Weaving.{IsStill, Spread, of, Works as WorksOf, Runs}
 use Rattle.ms_shared.proofs.WeaveLemmas.{weaves}

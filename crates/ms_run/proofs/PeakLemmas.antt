@@ -11,7 +11,7 @@ use Rattle.std.proofs.lemmas.List.FromFn.{length-range_with_len}
 use Rattle.ms_base.specs.State.{Machine}
 use Rattle.ms_pool.specs.LimitCounts.{limit_counts}
 use Rattle.ms_pool.specs.declared.pool.counts.LimitCounts.{LimitCounts}
-use Rattle.ms_loaders.specs.declared.peaks.Peaks.{Peaks}
+use Rattle.ms_answers.specs.declared.peaks.Peaks.{Peaks}
 use Rattle.ms_base.specs.Laws.Peak.{granules_of_both}
 use Rattle.ms_run.specs.Metering.{used_words_of}
 use Rattle.ms_run.specs.Peaks.{ArePeaks, IsPeak, loaders_of, nodes_of_both, usage_of}

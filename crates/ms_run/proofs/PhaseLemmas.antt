@@ -11,8 +11,8 @@ use Rattle.ms_base.specs.Request.{loader_of}
 use Rattle.ms_base.specs.State.{Machine}
 use Rattle.ms_base.specs.Good.{IsGood}
 use Rattle.ms_trace.specs.declared.trace.Line.{Line}
-use Rattle.ms_loaders.specs.declared.replies.Answer.{Answer}
-use Rattle.ms_loaders.specs.Loader.{LoaderView}
+use Rattle.ms_answers.specs.declared.replies.Answer.{Answer}
+use Rattle.ms_loader.specs.Loader.{LoaderView}
 use Rattle.ms_loaders.specs.System.{machine_of, AreTogether}
 use Rattle.std.proofs.lemmas.List.{length-map}
 use Rattle.ms_shared.specs.History.{Event, events_of, AreBelow}

@@ -17,7 +17,7 @@ use Rattle.ms_base.specs.Committed.{is_among}
 use Rattle.ms_base.specs.Names.{AreNamed}
 use Rattle.ms_pool.specs.Account.{AccountState}
 use Rattle.ms_pool.specs.Ledger.{Loan, Ledger, Serves, IsSoundLedger, chunks_of, is_owned_by, opened_in}
-use Rattle.ms_loaders.specs.Loader.{LoaderView, IsSoundView}
+use Rattle.ms_loader.specs.Loader.{LoaderView, IsSoundView}
 use Rattle.ms_loaders.specs.System.{accounts_of, owners_of, AreTogether}
 use Rattle.ms_shared.specs.declared.lock_rule.SeatView.{SeatView}
 use Rattle.ms_shared.specs.Entries.{Entry, Has, AreRecords, once_given, one_if as entry_if, times as entries_of}

@@ -34,7 +34,7 @@ use Rattle.ms_pool.proofs.ledger.TookLemmas.{took_keeps}
 use Rattle.ms_pool.proofs.ledger.GrewLemmas.{grow_refused_raises}
 use Rattle.ms_arena.specs.Arena.{ArenaView, account_of}
 use Rattle.ms_arena.specs.Alloc.{TakesNew, GrowsCurrent, AfterGrow, AsksChunk, FindsPlace, Allocates}
-use Rattle.ms_loaders.specs.Loader.{LoaderView, account_in, owner_in, AllocatesBlock, IsSoundView}
+use Rattle.ms_loader.specs.Loader.{LoaderView, account_in, owner_in, AllocatesBlock, IsSoundView}
 use Rattle.ms_loaders.specs.System.{accounts_of, owners_of, AreDistinct}
 use Rattle.ms_shared.specs.declared.lock_rule.SeatView.{SeatView}
 use Rattle.ms_shared.specs.Entries.{Entry, Has, refreshed, fresh}

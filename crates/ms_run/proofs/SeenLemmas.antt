@@ -8,9 +8,9 @@ use Rattle.ms_base.specs.State.{Limits, Machine, empty_machine, limits_of}
 use Rattle.ms_base.specs.declared.settings.Settings.{Settings}
 use Rattle.ms_base.specs.declared.step.Reply.{Reply}
 use Rattle.ms_trace.specs.declared.trace.Line.{Line}
-use Rattle.ms_loaders.specs.declared.details.Detail.TheVariants.{Full}
-use Rattle.ms_loaders.specs.declared.replies.Answer.{Answer}
-use Rattle.ms_loaders.specs.declared.totals.Totals.{Totals}
+use Rattle.ms_answers.specs.declared.details.Detail.TheVariants.{Full}
+use Rattle.ms_answers.specs.declared.replies.Answer.{Answer}
+use Rattle.ms_answers.specs.declared.totals.Totals.{Totals}
 use Rattle.ms_run.specs.Counting.{HasTaken}
 use Rattle.ms_run.specs.Course.{Course, begun}
 use Rattle.ms_run.specs.Observing.{AreSeen, IsObserved, LastSightIsTheMachine, PutsAndSees, WatchesLines, last_sight}

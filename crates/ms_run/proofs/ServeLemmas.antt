@@ -7,7 +7,7 @@ use Rattle.ms_base.specs.declared.span.Chunk.{Chunk}
 use Rattle.ms_pool.specs.Account.{AccountState}
 use Rattle.ms_pool.specs.Ledger.{Ledger, chunks_of}
 use Rattle.ms_pool.specs.Calls.{Purged}
-use Rattle.ms_loaders.specs.Loader.{LoaderView}
+use Rattle.ms_loader.specs.Loader.{LoaderView}
 use Rattle.ms_loaders.specs.System.{accounts_of}
 use Rattle.ms_shared.specs.Entries.{Entry, Has, AreRecords, refreshed, fresh}
 use Rattle.ms_shared.specs.SeatView.{SeatState, ServesBy, OverLock, opened_by}

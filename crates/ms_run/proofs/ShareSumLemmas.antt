@@ -4,7 +4,7 @@ use Rattle.std.specs.List.{AllByRecursion, sum_by}
 use Rattle.std.proofs.lemmas.List.Sums.{sum_by-cons}
 use Rattle.ms_base.specs.declared.kind.Space.TheVariants.{NonClass, Class}
 use Rattle.ms_pool.specs.Account.{AccountState}
-use Rattle.ms_loaders.specs.Loader.{LoaderView, account_in}
+use Rattle.ms_loader.specs.Loader.{LoaderView, account_in}
 use Rattle.ms_loaders.specs.System.{accounts_of, owners_of}
 use Rattle.ms_shared.specs.SeatView.{SeatState}
 use Rattle.ms_run.specs.declared.share.Share.{Share}

@@ -25,10 +25,10 @@ use Rattle.ms_base.specs.Transition.{with_freed}
 use Rattle.ms_base.proofs.entries.EntryLemmas.{Split, split_at, rises_with_changed}
 use Rattle.ms_base.proofs.entries.LookupLemmas.{named_changed_same, named_changed_other}
 use Rattle.ms_pool.specs.Account.{AccountState}
-use Rattle.ms_loaders.specs.Loader.{LoaderView, with_state, account_in, HasWord, WritesWord, FreesBlock, LacksWord}
-use Rattle.ms_loaders.specs.Loader.{LacksName, IsSoundView}
+use Rattle.ms_loader.specs.Loader.{LoaderView, with_state, account_in, HasWord, WritesWord, FreesBlock, LacksWord}
+use Rattle.ms_loader.specs.Loader.{LacksName, IsSoundView}
 use Rattle.ms_loaders.specs.System.{states_of, accounts_of, AreDistinct}
-use Rattle.ms_loaders.specs.Used.{used_by, used_at}
+use Rattle.ms_loader_map.specs.Used.{used_by, used_at}
 use Rattle.ms_shared.specs.SeatView.{ServesBy}
 use Rattle.ms_base.specs.Run.Own.{own_of, own_in}
 use Rattle.ms_run.specs.Manned.{KeepsSeats}

@@ -11,7 +11,7 @@ use Rattle.ms_base.specs.declared.step.Reply.TheVariants.{Ok as Done}
 use Rattle.ms_base.specs.Names.{named}
 use Rattle.ms_base.specs.Request.{loader_of, is_name}
 use Rattle.ms_trace.specs.declared.trace.Line.{Line}
-use Rattle.ms_loaders.specs.Loader.{LoaderView}
+use Rattle.ms_loader.specs.Loader.{LoaderView}
 use Rattle.ms_shared.specs.SeatView.{LockState, SeatState}
 use Rattle.ms_run.specs.Joined.{seat_of}
 use Rattle.ms_base.specs.Run.Own.{Said, own_said}

@@ -20,8 +20,8 @@ use Rattle.ms_pool.specs.Source.{ServesBoth}
 use Rattle.ms_pool.specs.Calls.{OpenedBoth, ClosedBoth, Took, Grew, Purged}
 use Rattle.ms_base.specs.State.{LoaderState}
 use Rattle.ms_base.specs.declared.refusal.Refusal.TheVariants.{OutOfMemory, LoaderExists}
-use Rattle.ms_loaders.specs.Loader.{LoaderView, account_in, new_loader, with_state, IsSoundView, AllocatesBlock}
-use Rattle.ms_loaders.specs.Loader.{WritesWord, FreesBlock}
+use Rattle.ms_loader.specs.Loader.{LoaderView, account_in, new_loader, with_state, IsSoundView, AllocatesBlock}
+use Rattle.ms_loader.specs.Loader.{WritesWord, FreesBlock}
 use Rattle.ms_shared.specs.History.{Event}
 use Rattle.ms_shared.specs.Weaving.{events_of as events_in_acts, said_of as said_in_acts}
 use Rattle.ms_shared.specs.SeatView.{SeatState}

@@ -6,9 +6,9 @@ use Rattle.ms_base.specs.Names.{named}
 use Rattle.ms_base.specs.State.{LoaderState}
 use Rattle.ms_base.specs.Good.{IsGood}
 use Rattle.ms_trace.specs.declared.trace.Line.{Line}
-use Rattle.ms_loaders.specs.declared.details.Detail.{Detail}
-use Rattle.ms_loaders.specs.declared.replies.Answer.{Answer}
-use Rattle.ms_loaders.specs.Used.{used_if}
+use Rattle.ms_answers.specs.declared.details.Detail.{Detail}
+use Rattle.ms_answers.specs.declared.replies.Answer.{Answer}
+use Rattle.ms_loader_map.specs.Used.{used_if}
 use Rattle.ms_run.specs.declared.alone.Metered.{Metered}
 use Rattle.ms_run.specs.Course.{Course, passed}
 use Rattle.ms_run.specs.Metering.{used_words_of}

@@ -7,7 +7,7 @@ use Rattle.ms_base.specs.Committed.{is_among}
 use Rattle.ms_base.specs.Names.{named}
 use Rattle.ms_base.specs.Request.{loader_of}
 use Rattle.ms_trace.specs.declared.trace.Line.{Line}
-use Rattle.ms_loaders.specs.Loader.{LoaderView}
+use Rattle.ms_loader.specs.Loader.{LoaderView}
 use Rattle.ms_loaders.specs.System.{owners_of}
 use Rattle.ms_shared.specs.declared.lock_rule.SeatView.{SeatView}
 use Rattle.ms_shared.specs.SeatView.{SeatState, LockState}

@@ -6,7 +6,7 @@ use Rattle.ms_base.specs.declared.kind.Space.{Space}
 use Rattle.ms_base.specs.declared.span.Chunk.{Chunk}
 use Rattle.ms_base.specs.Committed.{is_among}
 use Rattle.ms_base.specs.Names.{AreNamed}
-use Rattle.ms_loaders.specs.Loader.{LoaderView, IsSoundView}
+use Rattle.ms_loader.specs.Loader.{LoaderView, IsSoundView}
 use Rattle.ms_loaders.specs.System.{accounts_of, owners_of, AreDistinct}
 use Rattle.ms_shared.specs.declared.lock_rule.SeatView.{SeatView}
 use Rattle.ms_shared.specs.SeatView.{ServesBy, opened_by}

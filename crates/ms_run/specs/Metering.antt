@@ -5,7 +5,7 @@ use Rattle.ms_base.specs.declared.step.Step.{Step}
 use Rattle.ms_base.specs.declared.step.Step.TheVariants.{Alloc, Calloc, Unload}
 use Rattle.ms_base.specs.State.{Machine}
 use Rattle.ms_base.specs.Totals.{over_spaces, used_words}
-use Rattle.ms_loaders.specs.Used.{used_in}
+use Rattle.ms_loader_map.specs.Used.{used_in}
 use Rattle.ms_shared.specs.MeterRule.{MeterState, MeterSeatState, after_step, new_seat}
 use Rattle.ms_run.specs.declared.share.Share.{Share}
 

@@ -5,11 +5,11 @@ use Rattle.ms_base.specs.declared.step.Reply.{Reply}
 use Rattle.ms_base.specs.Names.{named}
 use Rattle.ms_base.specs.State.{Limits, LoaderState, Machine, empty_machine}
 use Rattle.ms_trace.specs.declared.trace.Line.{Line}
-use Rattle.ms_loaders.specs.declared.amounts.Amounts.{Amounts}
-use Rattle.ms_loaders.specs.declared.details.Detail.TheVariants.{Full}
-use Rattle.ms_loaders.specs.declared.replies.Answer.{Answer}
-use Rattle.ms_loaders.specs.declared.totals.Totals.{Totals}
-use Rattle.ms_loaders.specs.Amounts.{amounts_if, no_amounts}
+use Rattle.ms_loader.specs.declared.amounts.Amounts.{Amounts}
+use Rattle.ms_answers.specs.declared.details.Detail.TheVariants.{Full}
+use Rattle.ms_answers.specs.declared.replies.Answer.{Answer}
+use Rattle.ms_answers.specs.declared.totals.Totals.{Totals}
+use Rattle.ms_loader.specs.Amounts.{amounts_if, no_amounts}
 use Rattle.ms_run.specs.declared.alone.Metered.{Metered}
 use Rattle.ms_run.specs.Counting.{HasTaken}
 use Rattle.ms_run.specs.Course.{Course, begun}

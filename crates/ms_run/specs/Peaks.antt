@@ -4,7 +4,7 @@ use Rattle.std.specs.List.{All, Contains}
 use Rattle.ms_base.specs.Laws.Peak.{granules_of_both}
 use Rattle.ms_base.specs.State.{Machine, slots_in}
 use Rattle.ms_base.specs.Totals.{over_spaces}
-use Rattle.ms_loaders.specs.declared.peaks.Peaks.{Peaks}
+use Rattle.ms_answers.specs.declared.peaks.Peaks.{Peaks}
 use Rattle.ms_run.specs.Metering.{used_words_of}
 
 -- The reserved nodes of a machine, of both spaces, and its loaders.

@@ -17,13 +17,13 @@ use Rattle.ms_trace.specs.declared.trace.Command.{Command}
 use Rattle.ms_trace.specs.declared.trace.Command.TheVariants.{Step as Asks, Sync, Report}
 use Rattle.ms_trace.specs.declared.trace.Line.{Line}
 use Rattle.ms_trace.specs.Steps.{step_of}
-use Rattle.ms_loaders.specs.declared.details.Detail.{Detail}
-use Rattle.ms_loaders.specs.declared.details.Detail.TheVariants.{Basic, Full}
-use Rattle.ms_loaders.specs.declared.peaks.Peaks.{Peaks}
-use Rattle.ms_loaders.specs.declared.totals.Totals.{Totals}
-use Rattle.ms_loaders.specs.declared.replies.Answer.{Answer}
-use Rattle.ms_loaders.specs.Details.{details_in, details_of}
-use Rattle.ms_loaders.specs.Sums.{sums_in}
+use Rattle.ms_answers.specs.declared.details.Detail.{Detail}
+use Rattle.ms_answers.specs.declared.details.Detail.TheVariants.{Basic, Full}
+use Rattle.ms_answers.specs.declared.peaks.Peaks.{Peaks}
+use Rattle.ms_answers.specs.declared.totals.Totals.{Totals}
+use Rattle.ms_answers.specs.declared.replies.Answer.{Answer}
+use Rattle.ms_answers.specs.Details.{details_in, details_of}
+use Rattle.ms_answers.specs.Sums.{sums_in}
 use Rattle.ms_base.specs.Request.{loader_of}
 use Rattle.ms_run.specs.Course.{Course, begun, on_to, passed}
 use Rattle.ms_run.specs.Peaks.{ArePeaksIfKept}

@@ -5,8 +5,8 @@ use Rattle.ms_base.specs.State.{Limits, empty_machine, limits_of}
 use Rattle.ms_base.specs.declared.settings.Settings.{Settings}
 use Rattle.ms_base.specs.declared.step.Reply.{Reply}
 use Rattle.ms_trace.specs.declared.trace.Line.{Line}
-use Rattle.ms_loaders.specs.declared.details.Detail.{Detail}
-use Rattle.ms_loaders.specs.declared.replies.Answer.{Answer}
+use Rattle.ms_answers.specs.declared.details.Detail.{Detail}
+use Rattle.ms_answers.specs.declared.replies.Answer.{Answer}
 use Rattle.ms_run.specs.Counting.{GoesOnBy, GoesOnTo, HasTaken}
 use Rattle.ms_run.specs.Course.{Course, begun}
 use Rattle.ms_run.specs.Replay.{Answers, IsDetailed, IsEnd, IsReplay}

@@ -19,8 +19,9 @@ ghost use Rattle.ms_trace.specs.Steps.{step_of};
 use crate::between::answer_between;
 use crate::gate::{Gate, Manner};
 use crate::peaks::{begin, raise};
+use ms_answers::{Answer, AnswerSink, Detail, Peaks, Replies};
 use ms_base::{Reply, Settings, Step};
-use ms_loaders::{Answer, AnswerSink, Detail, Peaks, Replies, System};
+use ms_loaders::System;
 use ms_trace::{Command, Line};
 use std::alloc::{AllocError, Global};
 

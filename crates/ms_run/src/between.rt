@@ -5,9 +5,9 @@
 //! memory for a report and for answers; nothing waits.
 ghost use Rattle.std.specs.Prelude.{◌≡◌, ◌+◌, IfOk, IfSome, OnOk, None};
 ghost use Rattle.std.specs.Option.{is_some};
-ghost use Rattle.ms_loaders.specs.Details.{details_in, details_of};
+ghost use Rattle.ms_answers.specs.Details.{details_in, details_of};
 ghost use Rattle.ms_base.specs.Totals.{sums_of};
-ghost use Rattle.ms_loaders.specs.Sums.{sums_in};
+ghost use Rattle.ms_answers.specs.Sums.{sums_in};
 ghost use Rattle.ms_trace.specs.Steps.{step_of};
 ghost use Rattle.ms_run.specs.Course.{Course};
 ghost use Rattle.ms_run.specs.Counting.{HasTaken};
@@ -17,8 +17,9 @@ ghost use Rattle.ms_run.specs.Sink.{IsOfEnd, Puts};
 ghost use Rattle.ms_run.specs.Metering.{used_words_of};
 
 use crate::alone::Metered;
+use ms_answers::{Answer, AnswerSink, Detail, Details, SpaceTotals, Totals};
 use ms_base::Reply;
-use ms_loaders::{Answer, AnswerSink, Detail, Details, SpaceTotals, System, Totals};
+use ms_loaders::System;
 use ms_trace::{Command, Line};
 use std::alloc::{AllocError, Global};
 

@@ -2,7 +2,7 @@
 ghost use Rattle.std.specs.Prelude.{⊤};
 ghost use Rattle.ms_run.specs.Gating.{GateCall, Before, After};
 
-use ms_loaders::Detail;
+use ms_answers::Detail;
 
 /// What is called round each line that asks a step, by the worker that works it. A test can hold
 /// workers there. This project's choice.

@@ -8,7 +8,7 @@ ghost use Rattle.std.specs.Prelude.{◌≡◌, [], IsOk, IfOk, IfErr, OnOk, None
 ghost use Rattle.std.specs.List.{All};
 ghost use Rattle.ms_base.specs.declared.refusal.Refusal.TheVariants as Refusal;
 ghost use Rattle.ms_base.specs.Names.{AreNamed, named, with_new};
-ghost use Rattle.ms_loaders.specs.Loaders.{InsertRefused};
+ghost use Rattle.ms_loader_map.specs.Loaders.{InsertRefused};
 ghost use Rattle.ms_shared.specs.SeatView.{SeatState, Gathers, IsHistory};
 ghost use Rattle.ms_run.specs.Joined.{HaveOtherNames, IsJoined, AreJoined, IsWantOrUnsettled};
 ghost use Rattle.ms_run.specs.Joined.{IsEnded};
@@ -19,7 +19,9 @@ ghost use Rattle.ms_run.specs.Shares.{Position, AreApart, IsMannedShare, StandOv
 use crate::fault::RunFault;
 use crate::share::Share;
 use ms_base::Refusal;
-use ms_loaders::{Loader, Loaders, System};
+use ms_loader::Loader;
+use ms_loader_map::Loaders;
+use ms_loaders::System;
 use ms_pool::Pool;
 use ms_shared::{MeterSeat, PoolSeat, SharedPool};
 use std::alloc::Global;

@@ -32,7 +32,6 @@ mod working;
 pub use fault::RunFault;
 pub use gate::{Gate, NoGate};
 pub use ms_course::{Extent, Standing};
-pub use ms_loaders::Detail;
 pub use observer::Observer;
 pub use observing::replay_observed;
 pub use replaying::{replay, replay_detailed, replay_into};

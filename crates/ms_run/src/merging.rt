@@ -6,7 +6,7 @@ ghost use Rattle.std.specs.Prelude.{◌≡◌, ◌<◌, List, OnOk, Some, vec_le
 ghost use Rattle.ms_base.specs.declared.step.Step.{Step as Asked};
 ghost use Rattle.ms_base.specs.Request.{loader_of};
 ghost use Rattle.ms_trace.specs.Steps.{step_of};
-ghost use Rattle.ms_loaders.specs.declared.replies.Answer.{Answer};
+ghost use Rattle.ms_answers.specs.declared.replies.Answer.{Answer};
 ghost use Rattle.ms_run.specs.Replay.{AreSaid};
 ghost use Rattle.ms_base.specs.Run.Own.{Said};
 ghost use Rattle.ms_run.specs.Sink.{Puts};
@@ -15,7 +15,7 @@ ghost use Rattle.ms_run.specs.Shares.{AreAnswered, AreMerged, AreSteps};
 
 use crate::share::Share;
 use crate::turn::{Turn, loader_named};
-use ms_loaders::{Answer, AnswerSink};
+use ms_answers::{Answer, AnswerSink};
 use ms_trace::{Command, Line};
 use std::alloc::{AllocError, Global};
 

@@ -6,7 +6,7 @@
 ghost use Rattle.std.specs.Prelude.{◌≡◌, ◌+◌, ℕ, Some};
 ghost use Rattle.ms_base.specs.Names.{named};
 ghost use Rattle.ms_base.specs.Request.{loader_of};
-ghost use Rattle.ms_loaders.specs.Used.{used_at, used_in};
+ghost use Rattle.ms_loader_map.specs.Used.{used_at, used_in};
 ghost use Rattle.ms_run.specs.Acts.{HasMade, Makes, Touches};
 ghost use Rattle.ms_run.specs.Answering.{IsAnswered};
 ghost use Rattle.ms_run.specs.Manned.{IsManned};
@@ -14,7 +14,8 @@ ghost use Rattle.ms_run.specs.Metering.{MovesNoTop};
 ghost use Rattle.ms_run.specs.Moved.{IsMoved};
 
 use ms_base::{Reply, Step};
-use ms_loaders::{Loaders, serve};
+use ms_loader_map::Loaders;
+use ms_loaders::serve;
 use ms_shared::{LockedPool, MeterSeat, UsedMeter};
 use std::alloc::Global;
 use std::sync::Wait;

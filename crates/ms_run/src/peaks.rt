@@ -10,7 +10,8 @@ ghost use Rattle.ms_run.specs.Metering.{used_words_of};
 ghost use Rattle.ms_run.specs.Peaks.{ArePeaksIfKept, usage_of};
 ghost use Rattle.ms_run.specs.Replay.{AreKept};
 
-use ms_loaders::{Detail, Peaks, System};
+use ms_answers::{Detail, Peaks};
+use ms_loaders::System;
 
 /// Begins peaks where reports shall be full, with what a system has that has no word in use.
 pub fn begin(system: &System, detail: Detail) -> Option<Peaks>

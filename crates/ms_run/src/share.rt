@@ -1,6 +1,6 @@
 //! A worker's share of a phase.
 use ms_base::{Reply, Step};
-use ms_loaders::Loaders;
+use ms_loader_map::Loaders;
 use ms_shared::{MeterSeat, PoolSeat};
 
 /// A step, and the number of its line.

@@ -1,8 +1,9 @@
 //! A system with loaders and blocks, and how its sums are told.
 use crate::pools::SETTINGS;
 use crate::row::{tell, unprepared};
+use ms_answers::{Details, Peaks};
 use ms_base::{Kind, Reply, Step};
-use ms_loaders::{Details, Peaks, System, Totals};
+use ms_loaders::{System, Totals};
 use std::alloc::{AllocError, Global};
 use std::io;
 

@@ -7,8 +7,10 @@ ghost use Rattle.ms_loaders.specs.Settles.{MaySettle};
 
 use super::reports::ONE_BLOCK;
 use super::same;
+use ms_answers::{Details, LoaderDetails};
+use ms_arena::ArenaTotals;
 use ms_base::{Block, Kind, Policy, Refusal, Reply, Settings, Space, Step};
-use ms_loaders::{ArenaTotals, Details, Loader, LoaderDetails, Loaders, System, Totals, serve};
+use ms_loaders::{Loader, Loaders, System, Totals, serve};
 use ms_pool::{Cell, Pool, RootMap};
 use ms_report::{text, totals};
 use std::alloc::{AllocError, Global};

@@ -3,10 +3,10 @@
 //! each part of a full one, the system tests compare.
 
 use super::same;
+use ms_answers::{Details, LoaderDetails, LoaderRow, SpaceTotals};
+use ms_arena::ArenaTotals;
 use ms_base::{Kind, Policy, Refusal, Reply, Settings};
-use ms_loaders::{
-    Answer, ArenaTotals, Details, LoaderDetails, LoaderRow, Replies, SpaceTotals, Totals,
-};
+use ms_loaders::{Answer, Replies, Totals};
 use ms_pool::{Cell, RootMap};
 use ms_report::{full_text, lines, map_text, tally};
 use std::alloc::{AllocError, Global};

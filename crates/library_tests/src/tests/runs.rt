@@ -4,8 +4,9 @@
 ghost use Rattle.std.specs.Prelude.{◌≤◌};
 
 use super::same;
+use ms_answers::{Detail, SpaceTotals};
 use ms_base::{Policy, Reply, Settings};
-use ms_loaders::{Detail, Replies, SpaceTotals};
+use ms_loaders::Replies;
 use ms_report::AnswerText;
 use ms_run::{Gate, NoGate, RunFault, replay, replay_into};
 use ms_trace::{Trace, parse};

@@ -9,8 +9,9 @@ mod spaces;
 mod unloading;
 
 use super::same;
+use ms_arena::ArenaTotals;
 use ms_base::{Reply, Settings};
-use ms_loaders::{ArenaTotals, Loader, Loaders, System};
+use ms_loaders::{Loader, Loaders, System};
 use ms_pool::Account;
 use ms_trace::{Command, Trace, parse};
 use std::alloc::{AllocError, Global};

@@ -4,7 +4,7 @@
 //! loader places in its own chunks needs no pool.
 ghost use Rattle.std.specs.Prelude.{◌≡◌, Option, IfSome, IfNone, IfOk, IfErr, OnErr};
 ghost use Rattle.ms_base.specs.declared.kind.Space.TheVariants.{NonClass, Class};
-ghost use Rattle.ms_loaders.specs.Loader.{LoaderView, account_in, AllocatesBlock};
+ghost use Rattle.ms_loader.specs.Loader.{LoaderView, account_in, AllocatesBlock};
 ghost use Rattle.ms_pool.specs.Account.{AccountState};
 ghost use Rattle.ms_shared.specs.SeatView.{ServesBy, opened_by};
 ghost use Rattle.ms_shared.specs.LockCalls.{TookHeld, GrewHeld, OpenedBothHeld, ClosedBothHeld, PurgedHeld};
@@ -14,7 +14,7 @@ ghost use Rattle.ms_c.specs.Member.{ServesIt, LacksPool, Purges, alone_told, blo
 
 use super::Member;
 use ms_base::{Block, Kind, Refusal, Reply, Space};
-use ms_loaders::Loader;
+use ms_loader::Loader;
 use ms_pool::{AccountSource, NoChunks};
 use ms_shared::{HeldSeat, SharedPool};
 use std::alloc::Global;

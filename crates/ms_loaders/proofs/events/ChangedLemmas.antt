@@ -17,7 +17,7 @@ use Rattle.ms_base.proofs.arena.BlockLemmas.{arena_there, arena_elsewhere}
 use Rattle.ms_pool.specs.Account.{AccountState, AreChunks}
 use Rattle.ms_pool.specs.Ledger.{Loan, Ledger, Serves, IsSoundLedger, held_in, recommitted}
 use Rattle.ms_pool.proofs.ledger.KeepsLemmas.{Keeps, keeps_serves}
-use Rattle.ms_loaders.specs.Loader.{LoaderView, account_in, owner_in, with_state, IsSoundView}
+use Rattle.ms_loader.specs.Loader.{LoaderView, account_in, owner_in, with_state, IsSoundView}
 use Rattle.ms_loaders.specs.System.{states_of, owners_of, machine_of, AreTogether}
 use Rattle.ms_loaders.specs.CallEvents.{with_chunks}
 use Rattle.ms_loaders.proofs.sums.FitLemmas.{HasOwner, fits, recommitted_machine}

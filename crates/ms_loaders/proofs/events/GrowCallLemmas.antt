@@ -26,7 +26,7 @@ use Rattle.ms_pool.specs.Calls.{GrewFrom, Grew}
 use Rattle.ms_pool.proofs.ledger.LoanAtLemmas.{same_from_start, owners_replaced}
 use Rattle.ms_pool.proofs.ledger.GrownAccountLemmas.{GrownWell, grown_well}
 use Rattle.ms_pool.proofs.ledger.GrewLemmas.{grow_refused_raises, grew_keeps}
-use Rattle.ms_loaders.specs.Loader.{LoaderView, account_in}
+use Rattle.ms_loader.specs.Loader.{LoaderView, account_in}
 use Rattle.ms_loaders.specs.System.{states_of, owners_of, machine_of, AreTogether}
 use Rattle.ms_loaders.specs.CallEvents.{IsEvent, IsThere, IsGrowCall, IsAnswered, with_chunks}
 use Rattle.ms_loaders.proofs.sums.FitLemmas.{fits, machine_is_good}

@@ -17,12 +17,12 @@ use Rattle.ms_pool.specs.Account.{AccountState, AreChunks}
 use Rattle.ms_pool.specs.Tallies.{Tallies, one_more}
 use Rattle.ms_pool.specs.Ledger.{Loan, Ledger, IsSoundLedger, state_in}
 use Rattle.ms_pool.specs.Calls.{tallied}
-use Rattle.ms_loaders.specs.Loader.{LoaderView, new_loader, IsSoundView}
+use Rattle.ms_loader.specs.Loader.{LoaderView, new_loader, IsSoundView}
 use Rattle.ms_loaders.specs.System.{AreTogether}
 use Rattle.ms_loaders.specs.CallEvents.{IsEvent, IsOpenCall, OpensLoader}
 use Rattle.ms_loaders.proofs.steps.StepLemmas.{lacks_loader}
 use Rattle.ms_loaders.proofs.steps.CloseLemmas.{with_both, first_account, second_account, together_made, machine_made}
-use Rattle.ms_loaders.proofs.calls.EmptyLemmas.{nothing_lent}
+use Rattle.ms_loader.proofs.calls.EmptyLemmas.{nothing_lent}
 use Rattle.ms_loaders.proofs.events.TalliedLemmas.{together_tallied}
 
 -- A ledger is sound still where more owner numbers are given out, and accounts opened for them.

@@ -33,10 +33,10 @@ use Rattle.ms_pool.proofs.ledger.LoanOrderLemmas.{all_with}
 use Rattle.ms_pool.proofs.ledger.TakenLemmas.{IsLendable, taken_is_lendable}
 use Rattle.ms_pool.proofs.ledger.TakeLemmas.{TakenWell, taken_well}
 use Rattle.ms_pool.proofs.ledger.TookLemmas.{take_refused_raises, took_keeps}
-use Rattle.ms_loaders.specs.Loader.{LoaderView, account_in}
+use Rattle.ms_loader.specs.Loader.{LoaderView, account_in}
 use Rattle.ms_loaders.specs.System.{states_of, owners_of, machine_of, AreTogether}
 use Rattle.ms_loaders.specs.CallEvents.{IsEvent, IsThere, IsTakeCall, IsAnswered, with_chunks}
-use Rattle.ms_loaders.proofs.calls.LoaderSpaceLemmas.{chunk_in_space}
+use Rattle.ms_loader.proofs.calls.LoaderSpaceLemmas.{chunk_in_space}
 use Rattle.ms_loaders.proofs.sums.FitLemmas.{HasOwner, fits, machine_is_good}
 use Rattle.ms_loaders.proofs.steps.AddableLemmas.{taking_is_addable}
 use Rattle.ms_loaders.proofs.steps.ServedLemmas.{own_is_among}

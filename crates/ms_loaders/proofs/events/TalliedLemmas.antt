@@ -6,7 +6,7 @@ use Rattle.ms_base.specs.Good.{IsSoundPool}
 use Rattle.ms_pool.specs.Tallies.{Tallies}
 use Rattle.ms_pool.specs.Ledger.{Ledger, IsSoundLedger, state_in}
 use Rattle.ms_pool.specs.Calls.{tallied}
-use Rattle.ms_loaders.specs.Loader.{LoaderView}
+use Rattle.ms_loader.specs.Loader.{LoaderView}
 use Rattle.ms_loaders.specs.System.{AreTogether}
 use Rattle.ms_loaders.proofs.steps.PurgeStepLemmas.{together_alike}
 

@@ -15,7 +15,7 @@ use Rattle.ms_pool.specs.Ledger.{Ledger, IsSoundLedger, opened_in, purged}
 use Rattle.ms_pool.specs.Calls.{Purged, Totalled, sums_in}
 use Rattle.ms_pool.proofs.ledger.PurgeLemmas.{purged_is_sound}
 use Rattle.ms_pool.proofs.ledger.LedgerCloseLemmas.{both_closed_is_sound}
-use Rattle.ms_loaders.specs.Loader.{LoaderView, account_in}
+use Rattle.ms_loader.specs.Loader.{LoaderView, account_in}
 use Rattle.ms_loaders.specs.System.{states_of, machine_of, AreTogether}
 use Rattle.ms_loaders.specs.CallEvents.{IsEvent, IsCloseCall}
 use Rattle.ms_loaders.proofs.sums.TotalsLemmas.{pool_tells}

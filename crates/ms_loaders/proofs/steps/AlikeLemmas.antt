@@ -16,7 +16,7 @@ use Rattle.ms_pool.specs.Ledger.{Ledger}
 use Rattle.ms_pool.specs.Calls.{Took, Grew}
 use Rattle.ms_arena.specs.Arena.{ArenaView}
 use Rattle.ms_arena.specs.Alloc.{TakeRelation, GrowRelation, TakesNew, AfterGrow, AsksChunk, FindsPlace, Allocates}
-use Rattle.ms_loaders.specs.Loader.{LoaderView, AllocatesBlock}
+use Rattle.ms_loader.specs.Loader.{LoaderView, AllocatesBlock}
 use Rattle.ms_loaders.proofs.steps.OutcomeLemmas.{GrewAtAll, TookAtAll, grew_at_all, took_at_all}
 
 module _ {S T : Type 0} (f : S → T) (grew : GrowRelation S) (took : TakeRelation S) (grew_there : GrowRelation T)

@@ -26,8 +26,8 @@ use Rattle.ms_pool.proofs.ledger.LoanAtLemmas.{contains_at}
 use Rattle.ms_pool.proofs.ledger.GrownAccountLemmas.{GrownWell, grown_well, grown_keeps_others}
 use Rattle.ms_pool.proofs.ledger.TakeLemmas.{lent_serves, lent_keeps_others}
 use Rattle.ms_arena.specs.Arena.{ArenaView, account_of}
-use Rattle.ms_loaders.specs.Loader.{LoaderView, account_in, owner_in, IsSoundView, IsArenaOf, AllocatesBlock}
-use Rattle.ms_loaders.specs.Loader.{AfterAlloc}
+use Rattle.ms_loader.specs.Loader.{LoaderView, account_in, owner_in, IsSoundView, IsArenaOf, AllocatesBlock}
+use Rattle.ms_loader.specs.Loader.{AfterAlloc}
 use Rattle.ms_loaders.specs.System.{machine_of, AreTogether}
 use Rattle.ms_loaders.proofs.steps.OutcomeLemmas.{SameBut, GrewAtAll, TookAtAll, GrownBy, LentBy, IsMade, Outcome}
 use Rattle.ms_loaders.proofs.steps.AskedLemmas.{outcome}

@@ -13,8 +13,8 @@ use Rattle.ms_base.specs.State.{LoaderState, Machine, arena_of}
 use Rattle.ms_base.specs.Good.{IsGood}
 use Rattle.ms_base.specs.Transition.{HasLoader, with_loader, with_freed, Writes, Frees, Reads, BlockCause, WordCause}
 use Rattle.ms_pool.specs.Ledger.{Ledger}
-use Rattle.ms_loaders.specs.Loader.{LoaderView, with_state, IsSoundView, HasWord, WritesWord, FreesBlock, LacksWord}
-use Rattle.ms_loaders.specs.Loader.{LacksName}
+use Rattle.ms_loader.specs.Loader.{LoaderView, with_state, IsSoundView, HasWord, WritesWord, FreesBlock, LacksWord}
+use Rattle.ms_loader.specs.Loader.{LacksName}
 use Rattle.ms_loaders.specs.System.{machine_of, AreTogether}
 use Rattle.ms_loaders.proofs.sums.FitLemmas.{machine_is_good}
 use Rattle.ms_loaders.proofs.steps.StillTogetherLemmas.{together_with}
@@ -139,15 +139,3 @@ same_loaders loaders name was is found same =
     ap (with_changed loaders name) same ∙ set_value_same (is_at (nat_cmp name)) loaders was found
 
 -- Whether a name is used.
-pub found : {X : Type 0} (o : Option X) → is_some o ≡ true → (x : X) × (o ≡ Some x)
-found None e = absurd (cc)
-found (Some x) e = (x, refl)
-
-pub missing : {X : Type 0} (o : Option X) → is_some o ≡ false → o ≡ None
-missing None e = refl
-missing (Some x) e = absurd (cc)
-
--- A name that is told to be free is free.
-pub unused_name : (loaders : List (ℕ × LoaderView)) (name : ℕ) (told : Bool) → told ≡ is_some (named loaders name)
-    → told ≡ false → named loaders name ≡ None
-unused_name loaders name told is free = missing (named loaders name) (sym is ∙ free)

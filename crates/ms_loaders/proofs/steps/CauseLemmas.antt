@@ -28,7 +28,7 @@ use Rattle.ms_base.proofs.free.AlikeLemmas.{permuted_are_alike}
 use Rattle.ms_base.proofs.free.OrderLemmas.{taken_alike}
 use Rattle.ms_pool.specs.Ledger.{Ledger, held_in, state_in}
 use Rattle.ms_arena.specs.Arena.{IsAskable, PlaceRefused}
-use Rattle.ms_loaders.specs.Loader.{LoaderView, IsSoundView, NameRefused, AllocatesBlock}
+use Rattle.ms_loader.specs.Loader.{LoaderView, IsSoundView, NameRefused, AllocatesBlock}
 use Rattle.ms_base.specs.Request.{alloc_in}
 use Rattle.ms_loaders.specs.System.{states_of, machine_of, AreTogether}
 use Rattle.ms_loaders.proofs.steps.OutcomeLemmas.{GrewAtAll, TookAtAll, SameBut, IsNotMade, TakeCause}

@@ -27,9 +27,9 @@ use Rattle.ms_base.proofs.runs.ApartLemmas.{list_any-with}
 use Rattle.ms_pool.specs.Account.{AccountState}
 use Rattle.ms_pool.specs.Ledger.{Loan, Ledger, Serves, IsSoundLedger, is_owned_by, with_opened}
 use Rattle.ms_pool.specs.Calls.{new_account}
-use Rattle.ms_loaders.specs.Loader.{LoaderView, account_in, new_loader, IsSoundView}
+use Rattle.ms_loader.specs.Loader.{LoaderView, account_in, new_loader, IsSoundView}
 use Rattle.ms_loaders.specs.System.{states_of, accounts_of, owners_of, machine_of, AreTogether}
-use Rattle.ms_loaders.proofs.MappedLemmas.{new-mapped}
+use Rattle.ms_loader.proofs.MappedLemmas.{new-mapped}
 use Rattle.ms_loaders.proofs.sums.FitLemmas.{HasOwner, owner_of}
 use Rattle.ms_loaders.proofs.sums.OwnedLoanLemmas.{owned, others}
 use Rattle.ms_loaders.proofs.steps.ServedLemmas.{one_if, accounts_split, times, is_it, times_split}

@@ -12,7 +12,7 @@ use Rattle.ms_base.specs.Good.{IsGood}
 use Rattle.ms_base.specs.Transition.{purged as machine_purged}
 use Rattle.ms_base.proofs.free.AlikeLemmas.{permuted_are_alike}
 use Rattle.ms_pool.specs.Ledger.{Ledger, Serves, IsSoundLedger, held_in, purged}
-use Rattle.ms_loaders.specs.Loader.{LoaderView}
+use Rattle.ms_loader.specs.Loader.{LoaderView}
 use Rattle.ms_loaders.specs.System.{states_of, accounts_of, owners_of, machine_of, AreTogether}
 use Rattle.ms_loaders.proofs.sums.FitLemmas.{HasOwner, fits, machine_is_good, recommitted_machine}
 use Rattle.ms_loaders.proofs.steps.CloseLemmas.{served_with}

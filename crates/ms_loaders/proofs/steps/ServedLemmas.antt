@@ -31,7 +31,7 @@ use Rattle.ms_pool.specs.Account.{AccountState}
 use Rattle.ms_pool.specs.Ledger.{Loan, Ledger}
 use Rattle.ms_arena.specs.Arena.{ArenaView}
 use Rattle.ms_arena.specs.Alloc.{TakeRelation, GrowRelation}
-use Rattle.ms_loaders.specs.Loader.{LoaderView, account_in, IsSoundView, AllocatesBlock, AfterAlloc, IsArenaOf}
+use Rattle.ms_loader.specs.Loader.{LoaderView, account_in, IsSoundView, AllocatesBlock, AfterAlloc, IsArenaOf}
 use Rattle.ms_loaders.specs.System.{accounts_of, owners_of, AreDistinct}
 use Rattle.ms_loaders.proofs.steps.OutcomeLemmas.{GrewAtAll, TookAtAll}
 use Rattle.ms_loaders.proofs.steps.AskedLemmas.{outcome}

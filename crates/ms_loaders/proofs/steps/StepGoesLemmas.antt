@@ -18,8 +18,8 @@ use Rattle.ms_base.specs.Transition.{Transition}
 use Rattle.ms_pool.specs.Account.{AccountState}
 use Rattle.ms_pool.specs.Ledger.{Ledger, Serves, IsSoundLedger, opened_in, with_both_closed}
 use Rattle.ms_pool.specs.Calls.{Took, Grew, OpenedBoth, ClosedBoth, Purged}
-use Rattle.ms_loaders.specs.Loader.{LoaderView, account_in, new_loader, IsSoundView, WritesWord, FreesBlock, HasWord}
-use Rattle.ms_loaders.specs.Loader.{LacksWord, LacksName}
+use Rattle.ms_loader.specs.Loader.{LoaderView, account_in, new_loader, IsSoundView, WritesWord, FreesBlock, HasWord}
+use Rattle.ms_loader.specs.Loader.{LacksWord, LacksName}
 use Rattle.ms_loaders.specs.System.{machine_of, AreTogether}
 use Rattle.ms_loaders.specs.Serving.{SourceCalls, calls_of, MakesLoader, MakesInVain, MakesNone, AllocatesIn}
 use Rattle.ms_loaders.specs.Serving.{AllocatesAt, AllocatesNone, ChangesOne, LooksAt, IsLacking, ClosesLoader}

@@ -34,10 +34,10 @@ use Rattle.ms_base.proofs.granules.GranuleGrowingLemmas.{growing_keeps_the_limit
 use Rattle.ms_pool.specs.Ledger.{Loan, Ledger, held_in, state_in, with_loan}
 use Rattle.ms_pool.specs.Calls.{tallied}
 use Rattle.ms_arena.specs.Arena.{ArenaView}
-use Rattle.ms_loaders.specs.Loader.{LoaderView, IsSoundView, IsArenaOf, AllocatesBlock}
+use Rattle.ms_loader.specs.Loader.{LoaderView, IsSoundView, IsArenaOf, AllocatesBlock}
 use Rattle.ms_base.specs.Request.{alloc_in}
 use Rattle.ms_loaders.specs.System.{states_of, machine_of, AreTogether}
-use Rattle.ms_loaders.proofs.MappedLemmas.{found-mapped, missing-mapped, changed-mapped}
+use Rattle.ms_loader.proofs.MappedLemmas.{found-mapped, missing-mapped, changed-mapped}
 use Rattle.ms_loaders.proofs.steps.OutcomeLemmas.{GrewAtAll, TookAtAll, GrownBy, LentBy, IsMade, picked_is}
 use Rattle.ms_loaders.proofs.steps.AskedLemmas.{outcome}
 use Rattle.ms_loaders.proofs.sums.FitLemmas.{fits, machine_is_good, recommitted_machine}

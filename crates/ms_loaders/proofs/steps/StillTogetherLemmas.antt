@@ -18,7 +18,7 @@ use Rattle.ms_base.specs.State.{arena_of}
 use Rattle.ms_base.proofs.entries.EntryLemmas.{Split, split_at, rises_with_changed}
 use Rattle.ms_pool.specs.Account.{AccountState}
 use Rattle.ms_pool.specs.Ledger.{Ledger, Serves, IsSoundLedger, opened_in}
-use Rattle.ms_loaders.specs.Loader.{LoaderView, account_in, IsSoundView, AllocatesBlock}
+use Rattle.ms_loader.specs.Loader.{LoaderView, account_in, IsSoundView, AllocatesBlock}
 use Rattle.ms_loaders.specs.System.{accounts_of, owners_of, AreDistinct, AreServed, AreTogether}
 use Rattle.ms_loaders.proofs.steps.OutcomeLemmas.{GrewAtAll, TookAtAll}
 use Rattle.ms_loaders.proofs.sums.FitLemmas.{HasOwner, owner_of}

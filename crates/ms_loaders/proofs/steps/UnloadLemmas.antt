@@ -25,9 +25,9 @@ use Rattle.ms_base.proofs.machine.ChangeLemmas.{recommitted_same}
 use Rattle.ms_base.proofs.runs.ApartLemmas.{list_any-with}
 use Rattle.ms_pool.specs.Account.{AccountState}
 use Rattle.ms_pool.specs.Ledger.{Loan, Ledger, Serves, IsSoundLedger, held_in, others_than, with_both_closed}
-use Rattle.ms_loaders.specs.Loader.{LoaderView, account_in, IsSoundView}
+use Rattle.ms_loader.specs.Loader.{LoaderView, account_in, IsSoundView}
 use Rattle.ms_loaders.specs.System.{states_of, accounts_of, owners_of, machine_of, AreTogether}
-use Rattle.ms_loaders.proofs.MappedLemmas.{without-mapped}
+use Rattle.ms_loader.proofs.MappedLemmas.{without-mapped}
 use Rattle.ms_loaders.proofs.sums.FitLemmas.{HasOwner, owner_of, fits, machine_is_good}
 use Rattle.ms_loaders.proofs.sums.OwnedLoanLemmas.{owned, others, owned_elsewhere}
 use Rattle.ms_loaders.proofs.sums.FitLemmas.{recommitted_machine}

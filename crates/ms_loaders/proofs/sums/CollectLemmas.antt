@@ -13,11 +13,12 @@ use Rattle.ms_base.specs.State.{LoaderState}
 use Rattle.ms_base.specs.Totals.{LoaderRow, live_in, row_of}
 use Rattle.ms_base.proofs.arena.BlockLemmas.{not_in_other}
 use Rattle.ms_arena.specs.declared.totals.ArenaTotals.{ArenaTotals}
-use Rattle.ms_loaders.specs.Sums.{AreSumsIn, row_in}
+use Rattle.ms_answers.specs.Sums.{row_in}
+use Rattle.ms_loader.specs.ArenaSums.{AreSumsIn}
 use Rattle.ms_loaders.specs.Collecting.{AreFew, chunks_in, used_in, kept_in, row_made}
 use Rattle.ms_loaders.specs.declared.in_use.InUse.{InUse}
-use Rattle.ms_loaders.specs.declared.totals.LoaderRow.{LoaderRow as Row}
-use Rattle.ms_loaders.proofs.calls.NamedRunLemmas.{where_is}
+use Rattle.ms_answers.specs.declared.totals.LoaderRow.{LoaderRow as Row}
+use Rattle.ms_loader.proofs.calls.NamedRunLemmas.{where_is}
 
 -- The live words of a loader are those of its spaces.
 abbrev words_of_run : ℕ × ℕ → ℕ

@@ -8,9 +8,9 @@ use Rattle.ms_base.specs.declared.kind.Space.TheVariants.{NonClass, Class}
 use Rattle.ms_base.specs.State.{LoaderState, arena_of}
 use Rattle.ms_base.specs.Totals.{used_of, kept_of, live_in}
 use Rattle.ms_arena.specs.declared.totals.ArenaTotals.{ArenaTotals}
-use Rattle.ms_loaders.specs.Sums.{AreSumsIn}
-use Rattle.ms_loaders.specs.Details.{LoaderSums, arena_in, arena_sums, loader_in, loader_sums}
-use Rattle.ms_loaders.specs.declared.details.LoaderDetails.{LoaderDetails}
+use Rattle.ms_loader.specs.ArenaSums.{AreSumsIn}
+use Rattle.ms_answers.specs.Details.{LoaderSums, arena_in, arena_sums, loader_in, loader_sums}
+use Rattle.ms_answers.specs.declared.details.LoaderDetails.{LoaderDetails}
 
 -- Totals that are the sums over a loader's arena are told so.
 pub arena_is : (space : Space) (totals : ArenaTotals) (loader : LoaderState) → AreSumsIn space totals loader

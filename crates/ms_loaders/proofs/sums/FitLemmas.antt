@@ -25,11 +25,11 @@ use Rattle.ms_base.proofs.free.OrderLemmas.{sound_permuted, committed_alike}
 use Rattle.ms_base.proofs.arena.BlockLemmas.{not_in_other}
 use Rattle.ms_pool.specs.Account.{AccountState}
 use Rattle.ms_pool.specs.Ledger.{Loan, Ledger, Serves, held_in, is_owned_by, state_in, recommitted}
-use Rattle.ms_loaders.specs.Loader.{LoaderView, IsSoundView}
+use Rattle.ms_loader.specs.Loader.{LoaderView, IsSoundView}
 use Rattle.ms_loaders.specs.System.{states_of, accounts_of, owners_of, machine_of, AreDistinct, AreServed, AreTogether}
 use Rattle.ms_loaders.proofs.TimesLemmas.{Tells, kept-permuted}
-use Rattle.ms_loaders.proofs.MappedLemmas.{rises-mapped}
-use Rattle.ms_loaders.proofs.calls.LoaderSpaceLemmas.{chunk_in_space}
+use Rattle.ms_loader.proofs.MappedLemmas.{rises-mapped}
+use Rattle.ms_loader.proofs.calls.LoaderSpaceLemmas.{chunk_in_space}
 use Rattle.ms_loaders.proofs.sums.OwnedLoanLemmas.{chunk_of, owned, others, owned_elsewhere, distinct_rest, not_again}
 
 -- The test that tells chunks.

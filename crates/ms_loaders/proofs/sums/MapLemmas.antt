@@ -7,7 +7,7 @@ use Rattle.ms_base.proofs.free.AlikeLemmas.{permuted_are_alike}
 use Rattle.ms_pool.specs.Ledger.{Ledger, held_in, state_in}
 use Rattle.ms_pool.specs.Mapping.{maps_of}
 use Rattle.ms_pool.proofs.maps.AlikeMapLemmas.{maps_alike}
-use Rattle.ms_loaders.specs.Loader.{LoaderView}
+use Rattle.ms_loader.specs.Loader.{LoaderView}
 use Rattle.ms_loaders.specs.System.{AreTogether, machine_of, states_of}
 use Rattle.ms_loaders.proofs.sums.FitLemmas.{fits}
 

@@ -10,7 +10,7 @@ use Rattle.ms_base.specs.Names.{named, without}
 use Rattle.ms_base.proofs.entries.EntryLemmas.{Split, split_at}
 use Rattle.ms_pool.specs.Account.{AccountState}
 use Rattle.ms_pool.specs.Ledger.{Ledger, Serves}
-use Rattle.ms_loaders.specs.Loader.{LoaderView, account_in}
+use Rattle.ms_loader.specs.Loader.{LoaderView, account_in}
 use Rattle.ms_loaders.specs.System.{accounts_of}
 use Rattle.ms_loaders.specs.Settles.{MaySettle, open_accounts, accounts_in}
 use Rattle.ms_loaders.proofs.sums.FitLemmas.{owner_of}

@@ -19,7 +19,7 @@ use Rattle.ms_base.proofs.free.OrderLemmas.{sums_alike}
 use Rattle.ms_base.proofs.machine.SumLemmas.{capacity_below, committed_below, used_below}
 use Rattle.ms_pool.specs.Ledger.{Ledger, state_in}
 use Rattle.ms_pool.proofs.ledger.AccountLemmas.{sized}
-use Rattle.ms_loaders.specs.Loader.{LoaderView}
+use Rattle.ms_loader.specs.Loader.{LoaderView}
 use Rattle.ms_loaders.specs.System.{states_of, machine_of, AreTogether}
 use Rattle.ms_loaders.specs.Collecting.{AreFew, AreInUse, chunks_in, space_made}
 use Rattle.ms_loaders.specs.declared.in_use.InUse.{InUse}

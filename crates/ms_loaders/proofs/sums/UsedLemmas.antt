@@ -13,11 +13,11 @@ use Rattle.ms_base.specs.State.{LoaderState, Machine, pool_of}
 use Rattle.ms_base.specs.Totals.{used_of, used_words}
 use Rattle.ms_base.specs.Good.{IsGood}
 use Rattle.ms_base.proofs.machine.SumLemmas.{used_below, few_slots, committed_within_slots}
-use Rattle.ms_loaders.specs.Loader.{LoaderView}
+use Rattle.ms_loader.specs.Loader.{LoaderView}
 use Rattle.ms_loaders.specs.System.{states_of}
-use Rattle.ms_loaders.specs.Amounts.{amounts_at, amounts_if}
-use Rattle.ms_loaders.specs.Used.{used_by, used_at, used_if}
-use Rattle.ms_loaders.proofs.MappedLemmas.{named-mapped}
+use Rattle.ms_loader.specs.Amounts.{amounts_at, amounts_if}
+use Rattle.ms_loader_map.specs.Used.{used_by, used_at, used_if}
+use Rattle.ms_loader.proofs.MappedLemmas.{named-mapped}
 
 -- A loader's words in use, in both spaces.
 abbrev pub used_in_both : LoaderView → ℕ

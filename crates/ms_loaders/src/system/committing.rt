@@ -10,10 +10,10 @@ ghost use Rattle.ms_base.specs.Transition.{Transition};
 ghost use Rattle.ms_loaders.specs.Committing.{IsEdge, TellsRun, front_before, run_of};
 
 use super::System;
-use crate::loader::Loader;
-use crate::loaders::Loaders;
 use crate::serving::allocate;
 use ms_base::{Refusal, Reply, Space, granule};
+use ms_loader::Loader;
+use ms_loader_map::Loaders;
 use ms_pool::Account;
 
 /// A run of granules, by their numbers over both spaces; none where nothing became committed.

@@ -4,8 +4,8 @@ ghost use Rattle.std.specs.List.{list_any};
 ghost use Rattle.ms_loaders.specs.Holder.{has_owner, holds, is_owner};
 
 use super::System;
-use crate::loader::{Loader, is_class};
-use crate::loaders::Loaders;
+use ms_loader::{Loader, is_class};
+use ms_loader_map::Loaders;
 
 impl System {
     /// Returns the name of the loader in whose chunk a word lies, in either space, if it lies in

@@ -15,8 +15,8 @@ ghost use Rattle.ms_loaders.specs.System.{machine_of, AreTogether};
 ghost use Rattle.ms_loaders.specs.Settles.{MaySettle, open_accounts, accounts_in};
 
 use super::System;
-use crate::loaders::Loaders;
 use ms_base::Refusal;
+use ms_loader_map::Loaders;
 use ms_pool::Pool;
 use std::alloc::Global;
 

@@ -1,11 +1,12 @@
 //! The sums of one loader of a system, and what a full report tells beyond the totals.
 ghost use Rattle.std.specs.Prelude.{◌≡◌, ◌↔◌, IfOk, IfSome, None};
 ghost use Rattle.ms_base.specs.Transition.{LacksLoader};
-ghost use Rattle.ms_loaders.specs.Details.{details_in, details_of};
+ghost use Rattle.ms_answers.specs.Details.{details_in, details_of};
 ghost use Rattle.ms_loaders.specs.LoaderSums.{AreLoaderSums};
 
 use super::System;
-use crate::details::{Details, gather_loaders};
+use crate::collecting::gather_loaders;
+use ms_answers::Details;
 use ms_arena::ArenaTotals;
 use ms_base::Kind;
 use std::alloc::AllocError;

@@ -31,7 +31,7 @@ use Rattle.ms_base.proofs.arena.BlockLemmas.{is_run_in, run_in, runs_in_split, r
 use Rattle.ms_base.proofs.machine.BlocksApartLemmas.{middle_is_clear}
 use Rattle.ms_base.proofs.granules.GranuleLemmas.{ends_in_node}
 use Rattle.ms_arena.specs.Arena.{IsAskable}
-use Rattle.ms_loaders.specs.Loader.{LoaderView, IsSoundView, AllocatesBlock}
+use Rattle.ms_loader.specs.Loader.{LoaderView, IsSoundView, AllocatesBlock}
 use Rattle.ms_shared.specs.SeatView.{SeatState}
 use Rattle.ms_shared.specs.LockCalls.{TookOver, GrewOver}
 use Rattle.ms_run.proofs.grants.GrantToldLemmas.{own_part, tells}

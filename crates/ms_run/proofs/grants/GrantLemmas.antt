@@ -14,7 +14,7 @@ use Rattle.ms_base.specs.Names.{named, with_changed}
 use Rattle.ms_base.specs.Request.{alloc_in}
 use Rattle.ms_base.specs.Run.Alone.{OwnLoader, IsAllocWant, CanAlloc, AnswersAlloc, OwnReply}
 use Rattle.ms_base.proofs.entries.LookupLemmas.{named_changed_same}
-use Rattle.ms_loaders.specs.Loader.{LoaderView, IsSoundView, AllocatesBlock}
+use Rattle.ms_loader.specs.Loader.{LoaderView, IsSoundView, AllocatesBlock}
 use Rattle.ms_loaders.specs.System.{states_of}
 use Rattle.ms_shared.specs.SeatView.{SeatState}
 use Rattle.ms_shared.specs.LockCalls.{TookOver, GrewOver}

@@ -20,7 +20,7 @@ use Rattle.ms_base.specs.Run.Alone.{OwnLoader, IsAllocWant, CanAlloc, AnswersAll
 use Rattle.ms_pool.specs.Tallies.{Tallies}
 use Rattle.ms_arena.specs.Arena.{ArenaView, IsAskable, PlaceRefused}
 use Rattle.ms_arena.specs.Alloc.{AfterTake, TakesNew, AfterGrow, AsksChunk, FindsPlace, Allocates}
-use Rattle.ms_loaders.specs.Loader.{LoaderView, NameRefused, AllocatesBlock}
+use Rattle.ms_loader.specs.Loader.{LoaderView, NameRefused, AllocatesBlock}
 use Rattle.ms_shared.specs.SeatView.{SeatState}
 use Rattle.ms_shared.specs.LockCalls.{TakeTallies, TookOver, GrewOver}
 

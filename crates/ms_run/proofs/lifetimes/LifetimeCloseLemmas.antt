@@ -22,7 +22,7 @@ use Rattle.ms_pool.specs.Ledger.{Ledger, chunks_of, others_than}
 use Rattle.ms_pool.specs.Calls.{ClosedBoth}
 use Rattle.ms_pool.proofs.ledger.FewerLemmas.{none_left, none_still}
 use Rattle.ms_pool.proofs.ledger.LedgerCloseLemmas.{both_closed_keeps_others}
-use Rattle.ms_loaders.specs.Loader.{LoaderView, account_in, IsSoundView}
+use Rattle.ms_loader.specs.Loader.{LoaderView, account_in, IsSoundView}
 use Rattle.ms_loaders.specs.System.{accounts_of, owners_of}
 use Rattle.ms_loaders.proofs.sums.FitLemmas.{owner_of}
 use Rattle.ms_loaders.proofs.steps.ServedLemmas.{accounts_split, times, is_it, it_is, times_split, all_parts}

@@ -22,7 +22,7 @@ use Rattle.ms_pool.specs.Account.{AccountState}
 use Rattle.ms_pool.specs.Ledger.{Ledger}
 use Rattle.ms_pool.specs.Calls.{OpenedBoth, new_account}
 use Rattle.ms_pool.proofs.ledger.ClosedLemmas.{both_opened_keeps}
-use Rattle.ms_loaders.specs.Loader.{LoaderView, new_loader, IsSoundView}
+use Rattle.ms_loader.specs.Loader.{LoaderView, new_loader, IsSoundView}
 use Rattle.ms_loaders.specs.System.{accounts_of, owners_of}
 use Rattle.ms_loaders.proofs.sums.FitLemmas.{owner_of}
 use Rattle.ms_loaders.proofs.steps.ServedLemmas.{accounts_split, times, is_it, one_if, times_split, all_joined}

@@ -8,7 +8,7 @@ use Rattle.ms_base.specs.declared.refusal.Refusal.TheVariants.{LoaderExists, NoL
 use Rattle.ms_base.specs.Run.Alone.{OwnLoader, OwnReply}
 use Rattle.ms_base.specs.Names.{AreNamed, named, without}
 use Rattle.ms_base.proofs.events.SeenEntryLemmas.{named_without_same}
-use Rattle.ms_loaders.specs.Loader.{LoaderView}
+use Rattle.ms_loader.specs.Loader.{LoaderView}
 use Rattle.ms_loaders.specs.System.{states_of}
 use Rattle.ms_base.specs.Run.Own.{own_in}
 use Rattle.ms_run.proofs.TouchLemmas.{own_missing, own_found}

@@ -15,7 +15,7 @@ use Rattle.ms_pool.specs.Tallies.{no_tallies}
 use Rattle.ms_pool.specs.Ledger.{Ledger, IsSoundLedger}
 use Rattle.ms_pool.specs.Calls.{Took}
 use Rattle.ms_arena.specs.Arena.{ArenaView}
-use Rattle.ms_loaders.specs.Loader.{LoaderView, IsSoundView, AllocatesBlock}
+use Rattle.ms_loader.specs.Loader.{LoaderView, IsSoundView, AllocatesBlock}
 use Rattle.ms_loaders.specs.System.{machine_of, AreTogether}
 use Rattle.ms_loaders.proofs.steps.OutcomeLemmas.{Outcome, GrewAtAll, TookAtAll}
 use Rattle.ms_loaders.proofs.steps.AskedLemmas.{outcome}

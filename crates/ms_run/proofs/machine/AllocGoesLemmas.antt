@@ -13,7 +13,7 @@ use Rattle.ms_base.specs.Transition.{Transition}
 use Rattle.ms_base.proofs.entries.LookupLemmas.{named_changed_same, named_changed_other}
 use Rattle.ms_pool.specs.Ledger.{Ledger, IsSoundLedger}
 use Rattle.ms_pool.specs.Calls.{Took}
-use Rattle.ms_loaders.specs.Loader.{LoaderView, IsSoundView, AllocatesBlock}
+use Rattle.ms_loader.specs.Loader.{LoaderView, IsSoundView, AllocatesBlock}
 use Rattle.ms_loaders.specs.System.{machine_of}
 use Rattle.ms_loaders.proofs.steps.CauseLemmas.{alloc_finds_none}
 use Rattle.ms_shared.specs.History.{Event}

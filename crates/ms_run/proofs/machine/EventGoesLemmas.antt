@@ -14,7 +14,7 @@ use Rattle.ms_base.proofs.events.SeenEntryLemmas.{named_without_same}
 use Rattle.ms_pool.specs.Account.{AccountState}
 use Rattle.ms_pool.specs.Ledger.{Ledger}
 use Rattle.ms_pool.specs.Calls.{OpenedBoth}
-use Rattle.ms_loaders.specs.Loader.{LoaderView, new_loader, IsSoundView}
+use Rattle.ms_loader.specs.Loader.{LoaderView, new_loader, IsSoundView}
 use Rattle.ms_loaders.specs.System.{machine_of}
 use Rattle.ms_loaders.proofs.steps.CloseLemmas.{first_account, second_account}
 use Rattle.ms_loaders.proofs.steps.StepLemmas.{lacks_loader}

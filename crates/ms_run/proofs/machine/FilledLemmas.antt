@@ -10,7 +10,7 @@ use Rattle.ms_base.specs.declared.step.Step.TheVariants.{New, Unload, Purge}
 use Rattle.ms_base.specs.declared.step.Reply.TheVariants.{Ok as Done}
 use Rattle.ms_pool.specs.Tallies.{Tallies, no_tallies}
 use Rattle.ms_pool.specs.Ledger.{Ledger, Serves, IsSoundLedger, with_both_closed, purged}
-use Rattle.ms_loaders.specs.Loader.{LoaderView, account_in, new_loader, IsSoundView}
+use Rattle.ms_loader.specs.Loader.{LoaderView, account_in, new_loader, IsSoundView}
 use Rattle.ms_loaders.specs.System.{machine_of, accounts_of, AreTogether}
 use Rattle.ms_loaders.proofs.sums.FitLemmas.{machine_is_good}
 use Rattle.ms_loaders.proofs.steps.StepLemmas.{lacks_loader}

@@ -15,7 +15,7 @@ use Rattle.ms_base.specs.Run.Alone.{OwnLoader, OwnReply}
 use Rattle.ms_base.specs.Transition.{Transition, WordCause, BlockCause}
 use Rattle.ms_base.proofs.entries.LookupLemmas.{named_changed_same, named_changed_other}
 use Rattle.ms_pool.specs.Ledger.{Ledger}
-use Rattle.ms_loaders.specs.Loader.{LoaderView, WritesWord, FreesBlock}
+use Rattle.ms_loader.specs.Loader.{LoaderView, WritesWord, FreesBlock}
 use Rattle.ms_loaders.specs.System.{AreTogether, states_of, machine_of}
 use Rattle.ms_loaders.proofs.sums.FitLemmas.{machine_is_good}
 use Rattle.ms_loaders.proofs.steps.ServedLemmas.{length_changed}

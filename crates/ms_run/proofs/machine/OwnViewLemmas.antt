@@ -8,9 +8,9 @@ use Rattle.ms_base.specs.declared.refusal.Refusal.{Refusal}
 use Rattle.ms_base.specs.declared.refusal.Refusal.TheVariants.{NoLoader, NoBlock, OutOfRange, LoaderExists}
 use Rattle.ms_base.specs.Names.{named}
 use Rattle.ms_base.specs.Run.Alone.{OwnLoader, OwnReply}
-use Rattle.ms_loaders.specs.Loader.{LoaderView, HasWord, LacksWord, LacksName}
+use Rattle.ms_loader.specs.Loader.{LoaderView, HasWord, LacksWord, LacksName}
 use Rattle.ms_loaders.specs.System.{states_of}
-use Rattle.ms_loaders.proofs.MappedLemmas.{named-mapped}
+use Rattle.ms_loader.proofs.MappedLemmas.{named-mapped}
 use Rattle.ms_loaders.proofs.steps.UnloadLemmas.{state_of}
 use Rattle.ms_base.specs.Run.Own.{own_of, own_in}
 

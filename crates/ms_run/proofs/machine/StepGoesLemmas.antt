@@ -15,7 +15,7 @@ use Rattle.ms_base.specs.Request.{loader_of, alloc_in}
 use Rattle.ms_base.specs.Run.Alone.{OwnLoader, OwnReply}
 use Rattle.ms_pool.specs.Account.{AccountState}
 use Rattle.ms_pool.specs.Ledger.{Ledger}
-use Rattle.ms_loaders.specs.Loader.{LoaderView, new_loader, IsSoundView}
+use Rattle.ms_loader.specs.Loader.{LoaderView, new_loader, IsSoundView}
 use Rattle.ms_shared.specs.History.{Event}
 use Rattle.ms_run.specs.Acts.{IsSoundEvent, Makes, AsksOf, IsOwnStep, OpensInVain, IsDoneBy, IsStep, seen}
 use Rattle.ms_run.proofs.machine.FilledLemmas.{filled, AreWhole}

@@ -18,10 +18,10 @@ use Rattle.ms_base.specs.Transition.{Transition}
 use Rattle.ms_base.specs.Run.{Run}
 use Rattle.ms_base.proofs.events.SeenEntryLemmas.{same_entries}
 use Rattle.ms_pool.specs.Ledger.{Ledger, Serves}
-use Rattle.ms_loaders.specs.Loader.{LoaderView}
+use Rattle.ms_loader.specs.Loader.{LoaderView}
 use Rattle.ms_loaders.specs.System.{states_of, machine_of, accounts_of, AreTogether}
 use Rattle.ms_loaders.proofs.steps.CloseLemmas.{served_with}
-use Rattle.ms_loaders.proofs.MappedLemmas.{named-mapped, rises-mapped}
+use Rattle.ms_loader.proofs.MappedLemmas.{named-mapped, rises-mapped}
 use Rattle.ms_loaders.proofs.events.OpenCallLemmas.{new_is_sound}
 use Rattle.ms_shared.specs.Weaving.{where_so, without_numbers, of, Steps, Runs}
 use Rattle.ms_base.specs.Run.Own.{Said}

@@ -28,10 +28,10 @@ use Rattle.ms_course.specs.declared.standing.Standing.{Standing}
 use Rattle.ms_course.proofs.NestLemmas.{good_nests}
 use Rattle.ms_pool.specs.LimitCounts.{limit_counts}
 use Rattle.ms_pool.specs.declared.pool.counts.LimitCounts.{LimitCounts}
-use Rattle.ms_loaders.specs.Amounts.{amounts_by, amounts_if, amounts_of, no_amounts}
-use Rattle.ms_loaders.specs.declared.amounts.Amounts.{Amounts}
-use Rattle.ms_loaders.specs.declared.details.Detail.TheVariants.{Full}
-use Rattle.ms_loaders.specs.declared.replies.Answer.{Answer}
+use Rattle.ms_loader.specs.Amounts.{amounts_by, amounts_if, amounts_of, no_amounts}
+use Rattle.ms_loader.specs.declared.amounts.Amounts.{Amounts}
+use Rattle.ms_answers.specs.declared.details.Detail.TheVariants.{Full}
+use Rattle.ms_answers.specs.declared.replies.Answer.{Answer}
 use Rattle.ms_run.specs.Counting.{HasTaken}
 use Rattle.ms_run.specs.Course.{Course}
 use Rattle.ms_run.specs.Observing.{amounts_in, moved_by}

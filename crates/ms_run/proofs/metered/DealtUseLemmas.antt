@@ -8,8 +8,8 @@ use Rattle.std.proofs.lemmas.List.{append_assoc, append-nil, map-append, nil_fro
 use Rattle.std.proofs.lemmas.List.Sums.{sum_by-append, sum_by-cons, sum_by_push}
 use Rattle.ms_base.specs.Names.{named, with_new, without}
 use Rattle.ms_base.proofs.entries.EntryLemmas.{split_at, gap_at, values_split, values_joined}
-use Rattle.ms_loaders.specs.Loader.{LoaderView}
-use Rattle.ms_loaders.specs.Used.{used_by, used_in}
+use Rattle.ms_loader.specs.Loader.{LoaderView}
+use Rattle.ms_loader_map.specs.Used.{used_by, used_in}
 use Rattle.ms_shared.specs.MeterRule.{MeterSeatState}
 use Rattle.ms_shared.specs.SeatView.{SeatState}
 use Rattle.ms_run.specs.declared.share.Share.{Share}

@@ -12,9 +12,9 @@ use Rattle.std.proofs.Math.Nat.{add-mod, add-mod-mod, mod-eq_of_lt}
 use Rattle.ms_base.specs.State.{Machine}
 use Rattle.ms_base.specs.Good.{IsGood}
 use Rattle.ms_pool.specs.Ledger.{Ledger}
-use Rattle.ms_loaders.specs.Loader.{LoaderView}
+use Rattle.ms_loader.specs.Loader.{LoaderView}
 use Rattle.ms_loaders.specs.System.{machine_of}
-use Rattle.ms_loaders.specs.Used.{used_by, used_in}
+use Rattle.ms_loader_map.specs.Used.{used_by, used_in}
 use Rattle.ms_loaders.proofs.sums.UsedLemmas.{used_is, used_fits}
 use Rattle.ms_shared.specs.MeterRule.{MeterState, MeterSeatState}
 use Rattle.ms_shared.specs.SeatView.{LockState}

@@ -18,8 +18,8 @@ use Rattle.ms_base.specs.Good.{IsGood}
 use Rattle.ms_base.specs.Totals.{used_of}
 use Rattle.ms_base.specs.Transition.{Transition, ServesStep}
 use Rattle.ms_base.proofs.entries.LookupLemmas.{named_changed_same, named_new_same}
-use Rattle.ms_loaders.specs.Used.{used_by, used_if}
-use Rattle.ms_loaders.specs.declared.details.Detail.{Detail}
+use Rattle.ms_loader_map.specs.Used.{used_by, used_if}
+use Rattle.ms_answers.specs.declared.details.Detail.{Detail}
 use Rattle.ms_loaders.proofs.sums.UsedLemmas.{used_fits}
 use Rattle.ms_run.specs.declared.alone.Metered.{Metered}
 use Rattle.ms_run.specs.Counting.{IsCounted, used_around}

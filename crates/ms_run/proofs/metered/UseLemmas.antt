@@ -18,9 +18,9 @@ use Rattle.ms_base.specs.Names.{AreNamed, named, without}
 use Rattle.ms_base.proofs.entries.EntryLemmas.{rises_without}
 use Rattle.ms_base.proofs.entries.LookupLemmas.{named_without_other}
 use Rattle.ms_base.proofs.events.SeenEntryLemmas.{named_without_same, same_entries}
-use Rattle.ms_loaders.specs.Loader.{LoaderView}
+use Rattle.ms_loader.specs.Loader.{LoaderView}
 use Rattle.ms_loaders.specs.System.{states_of}
-use Rattle.ms_loaders.specs.Used.{used_at, used_in}
+use Rattle.ms_loader_map.specs.Used.{used_at, used_in}
 use Rattle.ms_base.specs.Run.Own.{own_of, own_in}
 use Rattle.ms_run.proofs.TouchLemmas.{named_states}
 use Rattle.ms_loaders.proofs.steps.UnloadLemmas.{state_of}

@@ -16,7 +16,7 @@ use Rattle.ms_trace.specs.declared.trace.Command.{Command}
 use Rattle.ms_trace.specs.declared.trace.Command.TheVariants.{Step as Asks, Sync, Report}
 use Rattle.ms_trace.specs.declared.trace.Line.{Line}
 use Rattle.ms_trace.specs.Steps.{step_of}
-use Rattle.ms_loaders.specs.declared.replies.Answer.{Answer}
+use Rattle.ms_answers.specs.declared.replies.Answer.{Answer}
 use Rattle.ms_run.specs.Counting.{GoesOnTo, HasTaken}
 use Rattle.ms_run.specs.Gating.{AreGated, AreGatedByTurn, AreGatedFrom, GateCall}
 use Rattle.ms_run.specs.Course.{Course, begun}

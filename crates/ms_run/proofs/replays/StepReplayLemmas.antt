@@ -22,8 +22,8 @@ use Rattle.ms_trace.specs.declared.trace.Command.{Command}
 use Rattle.ms_trace.specs.declared.trace.Command.TheVariants.{Step as Asks, Sync, Report}
 use Rattle.ms_trace.specs.declared.trace.Line.{Line}
 use Rattle.ms_trace.specs.Steps.{step_of}
-use Rattle.ms_loaders.specs.declared.totals.Totals.{Totals}
-use Rattle.ms_loaders.specs.declared.replies.Answer.{Answer}
+use Rattle.ms_answers.specs.declared.totals.Totals.{Totals}
+use Rattle.ms_answers.specs.declared.replies.Answer.{Answer}
 use Rattle.ms_base.specs.Run.Own.{Said, own_said, own_in, OwnRun}
 use Rattle.ms_run.specs.Course.{Course, on_to, passed}
 use Rattle.ms_run.specs.Replay.{Advances, Reports, Answers, IsPhase, Replays}

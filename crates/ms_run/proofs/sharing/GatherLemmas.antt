@@ -20,8 +20,8 @@ use Rattle.ms_base.specs.Names.{AreNamed, named, with_new, without}
 use Rattle.ms_base.proofs.entries.EntryLemmas.{gap_at, rises_without, same_name}
 use Rattle.ms_base.proofs.entries.LookupLemmas.{at_itself, named_new_same, named_new_other}
 use Rattle.ms_base.proofs.events.SeenEntryLemmas.{named_without_same}
-use Rattle.ms_loaders.specs.Loader.{LoaderView}
-use Rattle.ms_loaders.specs.Loaders.{InsertRefused}
+use Rattle.ms_loader.specs.Loader.{LoaderView}
+use Rattle.ms_loader_map.specs.Loaders.{InsertRefused}
 use Rattle.ms_loaders.specs.System.{states_of}
 use Rattle.ms_run.specs.declared.share.Share.{Share}
 use Rattle.ms_run.specs.Shares.{Position, AreApart, IsGathered}

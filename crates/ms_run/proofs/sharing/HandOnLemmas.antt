@@ -17,7 +17,7 @@ use Rattle.ms_base.specs.Names.{named, with_new, without}
 use Rattle.ms_base.proofs.entries.EntryLemmas.{Split, split_at, Gap, gap_at, rises_without}
 use Rattle.ms_base.proofs.entries.NameLemmas.{rises_with_new}
 use Rattle.ms_pool.specs.Account.{AccountState}
-use Rattle.ms_loaders.specs.Loader.{LoaderView, account_in, IsSoundView}
+use Rattle.ms_loader.specs.Loader.{LoaderView, account_in, IsSoundView}
 use Rattle.ms_loaders.specs.System.{accounts_of, owners_of}
 use Rattle.ms_shared.specs.declared.lock_rule.SeatView.{SeatView}
 use Rattle.ms_shared.specs.Entries.{Has, only, all_but}

@@ -7,10 +7,10 @@ use Rattle.ms_base.specs.declared.kind.Space.TheVariants.{NonClass, Class}
 use Rattle.ms_base.specs.Names.{AreNamed, named, with_new, without}
 use Rattle.ms_base.proofs.entries.LookupLemmas.{named_new_same, named_new_other, named_without_other}
 use Rattle.ms_base.proofs.events.SeenEntryLemmas.{named_without_same}
-use Rattle.ms_loaders.specs.Loader.{LoaderView}
+use Rattle.ms_loader.specs.Loader.{LoaderView}
 use Rattle.ms_shared.specs.SeatView.{SeatState, without_account, with_account}
 use Rattle.ms_run.specs.Dealing.{Loaded, AreBeside, IsHanded}
-use Rattle.ms_loaders.proofs.steps.CallLemmas.{missing}
+use Rattle.ms_loader_map.proofs.NamedLemmas.{missing}
 use Rattle.ms_run.proofs.sharing.HandOnLemmas.{handed}
 
 -- Each seat serves its own then, by what the calls say.

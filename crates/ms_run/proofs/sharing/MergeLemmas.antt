@@ -16,7 +16,7 @@ use Rattle.ms_base.specs.declared.step.Reply.{Reply}
 use Rattle.ms_base.specs.Request.{loader_of}
 use Rattle.ms_trace.specs.declared.trace.Line.{Line}
 use Rattle.ms_trace.specs.Steps.{step_of}
-use Rattle.ms_loaders.specs.declared.replies.Answer.{Answer}
+use Rattle.ms_answers.specs.declared.replies.Answer.{Answer}
 use Rattle.ms_base.specs.Run.Own.{Said}
 use Rattle.ms_run.specs.Replay.{AreSaid}
 use Rattle.ms_run.specs.declared.share.Task.{Task}

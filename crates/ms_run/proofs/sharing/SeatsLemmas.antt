@@ -13,7 +13,7 @@ use Rattle.ms_base.specs.Committed.{is_among}
 use Rattle.ms_base.specs.State.{Limits}
 use Rattle.ms_pool.specs.Account.{AccountState}
 use Rattle.ms_pool.specs.Ledger.{Loan, Ledger, Serves, chunks_of, is_owned_by}
-use Rattle.ms_loaders.specs.Loader.{IsSoundView}
+use Rattle.ms_loader.specs.Loader.{IsSoundView}
 use Rattle.ms_loaders.specs.System.{accounts_of, owners_of, AreTogether}
 use Rattle.ms_shared.specs.declared.lock_rule.SeatView.{SeatView}
 use Rattle.ms_shared.specs.Entries.{Has, fresh, IsRecord}

@@ -24,17 +24,17 @@ use Rattle.ms_pool.proofs.account.Account.TheSendSync as account
 use Rattle.ms_shared.below.atomic_table.proofs.shared.Seat.TheSendSync as table_seat
 use Rattle.ms_loaders.below.ms_blocks.proofs.tree.Tree.TheLaws.TheKnot.{send-Tree, send-Fork}
 use Rattle.ms_loaders.below.ms_arena.proofs.words.Words.TheSendSync as words
-use Rattle.ms_loaders.proofs.naming.Names.TheSendSync as names
-use Rattle.ms_loaders.proofs.loaders.owners.Owners.TheSendSync as owners
+use Rattle.ms_loader.proofs.naming.Names.TheSendSync as names
+use Rattle.ms_loader_map.proofs.loaders.owners.Owners.TheSendSync as owners
 use Rattle.ms_loaders.below.ms_commit.proofs.mask.Mask.TheSendSync as mask
 use Rattle.ms_loaders.below.ms_commit.proofs.nodes.Nodes.TheSendSync as nodes
 use Rattle.ms_shared.below.atomic_table.proofs.shared.Shared.TheSendSync as table
 use Rattle.ms_shared.below.atomic_table.proofs.send_lease.SendLease.TheSendSync as lease
 use Rattle.std.proofs.alloc.Global.TheSendSync as global
-use Rattle.ms_loaders.specs.contracts.loaders.Loaders as loaders
-use Rattle.ms_loaders.specs.contracts.loaders.boxed.Boxed as boxed
-use Rattle.ms_loaders.specs.contracts.loaders.page.Page as page
-use Rattle.ms_loaders.specs.contracts.loaders.spares.Spares as spares
+use Rattle.ms_loader_map.specs.contracts.loaders.Loaders as loaders
+use Rattle.ms_loader_map.specs.contracts.loaders.boxed.Boxed as boxed
+use Rattle.ms_loader_map.specs.contracts.loaders.page.Page as page
+use Rattle.ms_loader_map.specs.contracts.loaders.spares.Spares as spares
 use Rattle.ms_shared.specs.contracts.seat.PoolSeat as seat
 use Rattle.ms_shared.specs.contracts.shared_pool.SharedPool as shared
 use Rattle.ms_shared.specs.contracts.used_meter.MeterSeat as meter_seat

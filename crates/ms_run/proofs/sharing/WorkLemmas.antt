@@ -7,8 +7,8 @@ use Rattle.ms_base.specs.declared.step.Step.{Step}
 use Rattle.ms_base.specs.declared.step.Step.TheVariants.{Purge}
 use Rattle.ms_base.specs.declared.step.Reply.{Reply}
 use Rattle.ms_base.specs.declared.step.Reply.TheVariants.{Ok as Done}
-use Rattle.ms_loaders.specs.Loader.{LoaderView}
-use Rattle.ms_loaders.specs.Used.{used_in}
+use Rattle.ms_loader.specs.Loader.{LoaderView}
+use Rattle.ms_loader_map.specs.Used.{used_in}
 use Rattle.ms_run.proofs.metered.MeterMoveLemmas.{moved_looked, moved_none, moved_then}
 use Rattle.ms_shared.specs.MeterRule.{MeterSeatState}
 use Rattle.ms_shared.specs.SeatView.{SeatState}

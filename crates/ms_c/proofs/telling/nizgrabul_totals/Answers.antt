@@ -1,6 +1,6 @@
 use Rattle.std.proofs.Common.{◌≡◌, ap, sym, subst, ◌∙◌, IfSome}
 use Rattle.ms_base.specs.Totals.{Sums, sums_of}
-use Rattle.ms_loaders.specs.Sums.{sums_in}
+use Rattle.ms_answers.specs.Sums.{sums_in}
 use Rattle.ms_c.specs.declared.answer.TheConstants.{DONE}
 use Rattle.ms_c.specs.declared.totals.Totals.{Totals}
 use Rattle.ms_c.specs.Holding.{Held}

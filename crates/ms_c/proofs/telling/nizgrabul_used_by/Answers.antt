@@ -1,7 +1,7 @@
 use Rattle.std.proofs.Common.{◌≡◌, ap, sym, subst, ◌∙◌, IfSome}
 use Rattle.ms_base.specs.Names.{named}
 use Rattle.ms_base.specs.State.{Machine}
-use Rattle.ms_loaders.specs.Used.{used_if}
+use Rattle.ms_loader_map.specs.Used.{used_if}
 use Rattle.ms_c.specs.Holding.{Held}
 use Rattle.ms_c.proofs.telling.nizgrabul_used_by.Goals as goal
 

@@ -1,6 +1,6 @@
 use Rattle.std.proofs.Common.{◌≡◌, ◌++◌, drop, false, map}
 use Rattle.std.specs.Prelude.{string_bytes}
-use Rattle.ms_loaders.specs.Details.{loader_in}
+use Rattle.ms_answers.specs.Details.{loader_in}
 use Rattle.ms_json.specs.Rows.{elements_run}
 use Rattle.ms_json.specs.Sums.{loader_data}
 use Rattle.ms_json.proofs.state.push_each_loader.Given as goal

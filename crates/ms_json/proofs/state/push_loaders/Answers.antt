@@ -1,6 +1,6 @@
 use Rattle.std.specs.Prelude.{string_bytes}
 use Rattle.std.proofs.Common.{map}
-use Rattle.ms_loaders.specs.Details.{loader_in}
+use Rattle.ms_answers.specs.Details.{loader_in}
 use Rattle.ms_json.specs.Sums.{loader_data}
 use Rattle.ms_json.proofs.WritingLemmas.{in_brackets}
 use Rattle.ms_json.proofs.state.push_loaders.Goals as goal

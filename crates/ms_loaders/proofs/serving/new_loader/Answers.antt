@@ -1,7 +1,7 @@
 use Rattle.std.proofs.Common.{inl, inr, refl, sym, ◌∙◌, arith}
 use Rattle.ms_base.specs.Names.{named}
-use Rattle.ms_loaders.specs.Loader.{new_loader}
-use Rattle.ms_loaders.proofs.steps.CallLemmas.{found, unused_name}
+use Rattle.ms_loader.specs.Loader.{new_loader}
+use Rattle.ms_loader_map.proofs.NamedLemmas.{found, unused_name}
 use Rattle.ms_loaders.proofs.ServingLemmas.{both_of_new, both_back, closed_back}
 use Rattle.ms_loaders.proofs.serving.new_loader.Goals as goal
 

@@ -1,6 +1,6 @@
 use Rattle.std.proofs.Common.{refl, ◌∙◌}
 use Rattle.ms_base.specs.declared.kind.Space.TheVariants.{NonClass, Class}
-use Rattle.ms_loaders.proofs.MappedLemmas.{without_missing}
+use Rattle.ms_loader.proofs.MappedLemmas.{without_missing}
 use Rattle.ms_loaders.proofs.ServingLemmas.{both_back, closed_back}
 use Rattle.ms_loaders.proofs.serving.unload.Goals as goal
 

@@ -1,6 +1,6 @@
 use Rattle.std.proofs.Common.{◌≡◌, ◌∷◌, [], ℕ, List, map, refl, ap}
 use Rattle.ms_course.specs.Gathering.{CourseView}
-use Rattle.ms_loaders.specs.declared.details.LoaderDetails.{LoaderDetails}
+use Rattle.ms_answers.specs.declared.details.LoaderDetails.{LoaderDetails}
 use Rattle.ms_page.specs.declared.holding.Holding.{Holding}
 use Rattle.ms_page.specs.Holdings.{holding_of}
 use Rattle.ms_page.proofs.laws.loaders_are_listed.Goals as goal

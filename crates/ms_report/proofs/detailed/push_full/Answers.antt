@@ -1,6 +1,6 @@
 use Rattle.std.specs.Prelude.{string_bytes}
-use Rattle.ms_loaders.specs.Details.{told_in}
-use Rattle.ms_loaders.specs.Sums.{sums_in}
+use Rattle.ms_answers.specs.Details.{told_in}
+use Rattle.ms_answers.specs.Sums.{sums_in}
 use Rattle.ms_report.specs.Detailed.{usage_part, details_part, maps_part}
 use Rattle.ms_report.specs.Peaks.{peaks_part}
 use Rattle.ms_report.specs.Refused.{refused_part}

@@ -1,6 +1,6 @@
 use Rattle.std.proofs.Common.{map}
 use Rattle.std.specs.Prelude.{string_bytes}
-use Rattle.ms_loaders.specs.Details.{loader_in}
+use Rattle.ms_answers.specs.Details.{loader_in}
 use Rattle.ms_report.specs.Holdings.{holdings_part}
 use Rattle.ms_report.specs.Kinds.{kinds_part}
 use Rattle.ms_report.proofs.TextLemmas.{adds_then}

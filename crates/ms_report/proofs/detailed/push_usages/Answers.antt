@@ -1,6 +1,6 @@
 use Rattle.std.proofs.Common.{codes}
 use Rattle.std.specs.Prelude.{string_bytes}
-use Rattle.ms_loaders.specs.Sums.{sums_in}
+use Rattle.ms_answers.specs.Sums.{sums_in}
 use Rattle.ms_report.specs.Detailed.{class_usage, titled_usage}
 use Rattle.ms_report.specs.Usage.{usages_of}
 use Rattle.ms_report.proofs.TextLemmas.{adds_then}

@@ -1,6 +1,6 @@
 use Rattle.std.proofs.Common.{◌≡◌, ◌++◌, drop, map}
 use Rattle.std.specs.Prelude.{string_bytes}
-use Rattle.ms_loaders.specs.Details.{loader_in}
+use Rattle.ms_answers.specs.Details.{loader_in}
 use Rattle.ms_report.specs.Holdings.{all_holdings}
 use Rattle.ms_report.proofs.holdings.push_all.Given as goal
 

@@ -1,6 +1,6 @@
 use Rattle.std.proofs.Common.{codes, map, ◌++◌}
 use Rattle.std.specs.Prelude.{string_bytes}
-use Rattle.ms_loaders.specs.Details.{loader_in}
+use Rattle.ms_answers.specs.Details.{loader_in}
 use Rattle.ms_report.specs.Kinds.{kind_table, kind_lines, kinds_of}
 use Rattle.ms_report.specs.Layout.{header}
 use Rattle.ms_report.proofs.TextLemmas.{adds_then}

@@ -1,6 +1,6 @@
 use Rattle.std.proofs.Common.{sym, ap, ◌∙◌}
 use Rattle.ms_report.specs.declared.kinds.KindTotals.{KindTotals}
-use Rattle.ms_loaders.specs.Details.{loader_in}
+use Rattle.ms_answers.specs.Details.{loader_in}
 use Rattle.ms_report.specs.Kinds.{with_loader}
 use Rattle.ms_report.proofs.KindLemmas.{one_of_kind, one_of_other, below_more}
 use Rattle.ms_report.proofs.kinds.sum_one.Goals.{then-is_same, else-is_same}

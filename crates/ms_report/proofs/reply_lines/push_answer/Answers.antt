@@ -1,7 +1,7 @@
 use Rattle.std.proofs.Common.{ℕ, List, ◌++◌, ◌∙◌, ap, append_assoc, string_bytes}
 use Rattle.ms_base.specs.ReplyText.{reply_line}
-use Rattle.ms_loaders.specs.Details.{told_in}
-use Rattle.ms_loaders.specs.Sums.{sums_in}
+use Rattle.ms_answers.specs.Details.{told_in}
+use Rattle.ms_answers.specs.Sums.{sums_in}
 use Rattle.ms_report.specs.Detailed.{detailed_text}
 use Rattle.ms_report.proofs.reply_lines.push_answer.Goals as goal
 

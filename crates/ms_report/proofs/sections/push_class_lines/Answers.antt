@@ -1,6 +1,6 @@
 use Rattle.std.proofs.Common.{codes, ◌++◌}
 use Rattle.std.specs.Prelude.{string_bytes}
-use Rattle.ms_loaders.specs.Sums.{space_in}
+use Rattle.ms_answers.specs.Sums.{space_in}
 use Rattle.ms_report.specs.Layout.{number_lines, space_rows}
 use Rattle.ms_report.specs.Sections.{levels_part}
 use Rattle.ms_report.proofs.TextLemmas.{adds_then, adds_three}

@@ -1,6 +1,6 @@
 use Rattle.std.proofs.Common.{map, codes, ◌++◌}
 use Rattle.std.specs.Prelude.{string_bytes}
-use Rattle.ms_loaders.specs.Sums.{row_in}
+use Rattle.ms_answers.specs.Sums.{row_in}
 use Rattle.ms_report.specs.Layout.{header, loader_table, loader_lines}
 use Rattle.ms_report.proofs.TextLemmas.{adds_then}
 use Rattle.ms_report.proofs.sections.push_loaders.Goals as goal

@@ -1,6 +1,6 @@
 use Rattle.std.proofs.Common.{map, ◌++◌}
 use Rattle.std.specs.Prelude.{string_bytes}
-use Rattle.ms_loaders.specs.Sums.{row_in, sums_in, space_in}
+use Rattle.ms_answers.specs.Sums.{row_in, sums_in, space_in}
 use Rattle.ms_report.specs.Sections.{main_part, class_part, loaders_part}
 use Rattle.ms_report.proofs.TextLemmas.{adds_then, adds_two}
 use Rattle.ms_report.proofs.sections.push_report.Goals as goal

@@ -1,6 +1,6 @@
 -- What was written of the line, column by column from the right, is the line of the table.
 use Rattle.std.specs.Prelude.{string_bytes}
-use Rattle.ms_loaders.specs.Sums.{row_in}
+use Rattle.ms_answers.specs.Sums.{row_in}
 use Rattle.ms_report.proofs.ColumnLemmas.{row_added}
 use Rattle.ms_report.proofs.sections.push_row.Goals as goal
 

@@ -1,5 +1,5 @@
 use Rattle.std.proofs.Common.{sym, subst}
-use Rattle.ms_loaders.specs.declared.totals.Totals.{Totals}
+use Rattle.ms_answers.specs.declared.totals.Totals.{Totals}
 use Rattle.ms_run.specs.Replay.{AreOf, HasDetail}
 use Rattle.ms_run.proofs.between.report_for.Goals as goal
 

@@ -2,7 +2,7 @@ use Rattle.std.proofs.Common.{ap, subst, ◌∙◌, ◌≡◌}
 use Rattle.std.specs.Prelude.{IfSome}
 use Rattle.ms_base.specs.State.{Machine}
 use Rattle.ms_base.specs.Totals.{sums_of}
-use Rattle.ms_loaders.specs.Details.{details_in, details_of}
+use Rattle.ms_answers.specs.Details.{details_in, details_of}
 use Rattle.ms_run.proofs.between.totals_of.Goals as goal
 
 pub returns-clause-of : goal.returns-clause-of

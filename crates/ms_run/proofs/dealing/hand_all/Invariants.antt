@@ -1,5 +1,5 @@
 use Rattle.std.proofs.Common.{◌≡◌, ◌+◌, drop}
-use Rattle.ms_loaders.specs.Used.{used_in}
+use Rattle.ms_loader_map.specs.Used.{used_in}
 use Rattle.ms_run.specs.Dealing.{AreCrews, IsSameSeat}
 use Rattle.ms_run.specs.Shares.{names_in}
 use Rattle.ms_run.proofs.sharing.HandingLemmas.{IsHanding}

@@ -1,6 +1,6 @@
 use Rattle.std.proofs.Common.{ℕ, List, length}
 use Rattle.ms_base.specs.Names.{AreNamed}
-use Rattle.ms_loaders.specs.Loader.{LoaderView}
+use Rattle.ms_loader.specs.Loader.{LoaderView}
 use Rattle.ms_run.specs.Joined.{HaveOtherNames, IsJoined}
 use Rattle.ms_run.proofs.gathering.insert_all.Given as goal
 

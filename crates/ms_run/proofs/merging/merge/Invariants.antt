@@ -1,5 +1,5 @@
 use Rattle.std.proofs.Common.{[], List}
-use Rattle.ms_loaders.specs.declared.replies.Answer.{Answer}
+use Rattle.ms_answers.specs.declared.replies.Answer.{Answer}
 use Rattle.ms_run.specs.Sink.{PutsAll}
 use Rattle.ms_run.specs.Turn.{position_in}
 use Rattle.ms_run.proofs.sharing.MergeLemmas.{SoFar}

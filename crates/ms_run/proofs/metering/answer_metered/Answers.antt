@@ -1,5 +1,5 @@
 use Rattle.std.proofs.Common.{ℕ, ◌≡◌, ◌+◌, subst, sym}
-use Rattle.ms_loaders.specs.Used.{used_in}
+use Rattle.ms_loader_map.specs.Used.{used_in}
 use Rattle.ms_run.proofs.metered.MeterMoveLemmas.{moved_down}
 use Rattle.ms_run.proofs.metering.answer_metered.Goals as goal
 

@@ -1,6 +1,6 @@
 use Rattle.std.proofs.Common.{◌≡◌, arith, subst, sym}
 use Rattle.ms_base.specs.Request.{loader_of}
-use Rattle.ms_loaders.specs.Used.{used_in}
+use Rattle.ms_loader_map.specs.Used.{used_in}
 use Rattle.ms_run.specs.Moved.{IsMoved}
 use Rattle.ms_run.proofs.metered.MeterMoveLemmas.{moved_none, moved_up}
 use Rattle.ms_run.proofs.metered.UseLemmas.{used_moved}

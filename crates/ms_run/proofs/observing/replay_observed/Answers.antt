@@ -1,6 +1,6 @@
 use Rattle.std.proofs.Common.{◌≡◌, refl, subst, sym}
 use Rattle.ms_base.specs.State.{Machine, empty_machine, limits_of}
-use Rattle.ms_loaders.specs.Amounts.{amounts_of, no_amounts}
+use Rattle.ms_loader.specs.Amounts.{amounts_of, no_amounts}
 use Rattle.ms_run.specs.Course.{begun}
 use Rattle.ms_run.proofs.SeenLemmas.{all_observed, to_trace}
 use Rattle.ms_run.proofs.observing.replay_observed.Goals as goal

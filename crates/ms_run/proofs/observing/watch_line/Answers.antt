@@ -1,5 +1,5 @@
 use Rattle.std.proofs.Common.{◌≡◌}
-use Rattle.ms_loaders.specs.Amounts.{amounts_of}
+use Rattle.ms_loader.specs.Amounts.{amounts_of}
 use Rattle.ms_run.proofs.SeenLemmas.{line_watched}
 use Rattle.ms_run.proofs.metered.AmountLemmas.{line_moved}
 use Rattle.ms_run.proofs.observing.watch_line.Goals as goal

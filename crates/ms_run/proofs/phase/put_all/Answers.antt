@@ -1,7 +1,7 @@
 -- One more answer is put.
 use Rattle.std.proofs.Common.{◌∙◌, ◌++◌, ◌∷◌, [], List, ap, append-nil, append_assoc, subst, sym}
 use Rattle.std.proofs.lemmas.List.{nil_from_length}
-use Rattle.ms_loaders.specs.declared.replies.Answer.{Answer}
+use Rattle.ms_answers.specs.declared.replies.Answer.{Answer}
 use Rattle.ms_run.specs.Sink.{PutsAll}
 use Rattle.ms_run.proofs.AloneLemmas.{puts_more, puts_none}
 use Rattle.ms_run.proofs.phase.put_all.Goals as goal

@@ -1,6 +1,6 @@
 use Rattle.std.proofs.Common.{[], List, append-nil, subst, sym, ◌∙◌}
 use Rattle.std.proofs.lemmas.Result.{on_ok_weaker}
-use Rattle.ms_loaders.specs.declared.replies.Answer.{Answer}
+use Rattle.ms_answers.specs.declared.replies.Answer.{Answer}
 use Rattle.ms_run.specs.Sink.{PutsAll}
 use Rattle.ms_run.specs.Turn.{worker_in}
 use Rattle.ms_run.proofs.AloneLemmas.{none_before}

@@ -2,7 +2,7 @@
 use Rattle.std.proofs.Common.{[], List, append-nil, subst, sym}
 use Rattle.std.specs.List.{All}
 use Rattle.ms_base.specs.State.{empty_machine, limits_of}
-use Rattle.ms_loaders.specs.declared.replies.Answer.{Answer}
+use Rattle.ms_answers.specs.declared.replies.Answer.{Answer}
 use Rattle.ms_run.specs.Course.{begun}
 use Rattle.ms_run.specs.Replay.{Answers, IsDetailed, IsReplay}
 use Rattle.ms_run.proofs.AloneLemmas.{none_before}

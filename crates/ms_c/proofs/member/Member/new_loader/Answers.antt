@@ -1,7 +1,7 @@
 use Rattle.std.proofs.Common.{inl, inr, refl, sym, ap, subst, ◌∙◌, Option, Some, IfOk, Result}
 use Rattle.std.specs.Arc.{arc_value}
 use Rattle.ms_base.specs.declared.refusal.Refusal.{Refusal}
-use Rattle.ms_loaders.specs.Loader.{LoaderView}
+use Rattle.ms_loader.specs.Loader.{LoaderView}
 use Rattle.ms_shared.specs.SeatView.{SeatState}
 use Rattle.ms_c.specs.declared.member.hosted.Hosted.{Hosted}
 use Rattle.ms_c.specs.Member.{MemberState, IsSeated, HostsArenas, ServesLoader}

@@ -1,6 +1,6 @@
 use Rattle.std.proofs.Common.{sym, subst, ◌∙◌, Option, None, Some}
 use Rattle.std.specs.Arc.{arc_value}
-use Rattle.ms_loaders.specs.Loader.{LoaderView}
+use Rattle.ms_loader.specs.Loader.{LoaderView}
 use Rattle.ms_shared.specs.SeatView.{SeatState}
 use Rattle.ms_c.specs.declared.member.hosted.Hosted.{Hosted}
 use Rattle.ms_c.specs.Member.{IsSeated, ServesIt, HostsArenas}

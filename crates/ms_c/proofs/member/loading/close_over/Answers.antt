@@ -2,7 +2,7 @@ use Rattle.std.proofs.Common.{sym, subst, ap}
 use Rattle.ms_base.specs.declared.kind.Space.TheVariants.{NonClass, Class}
 use Rattle.ms_pool.specs.Account.{AccountState}
 use Rattle.ms_shared.specs.SeatView.{HeldState, ServesBy}
-use Rattle.ms_loaders.specs.Loader.{account_in}
+use Rattle.ms_loader.specs.Loader.{account_in}
 use Rattle.ms_c.proofs.member.loading.close_over.Goals as goal
 
 -- both accounts are the loader's

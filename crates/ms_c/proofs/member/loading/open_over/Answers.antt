@@ -1,5 +1,5 @@
 use Rattle.std.proofs.Common.{sym, subst}
-use Rattle.ms_loaders.specs.Loader.{LoaderView, new_loader}
+use Rattle.ms_loader.specs.Loader.{LoaderView, new_loader}
 use Rattle.ms_shared.specs.SeatView.{HeldState}
 use Rattle.ms_c.specs.Member.{ServesLoader}
 use Rattle.ms_c.proofs.ServedLemmas.{serves_new}

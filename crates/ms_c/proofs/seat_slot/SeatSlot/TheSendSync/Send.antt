@@ -18,7 +18,7 @@ use Rattle.std_alloc.proofs.SendSync.{quiet, lies}
 use Rattle.std_alloc.proofs.arc.Arc.TheSendSync as arc
 use Rattle.ms_pool.proofs.account.Account.TheSendSync as account
 use Rattle.ms_arena.proofs.words.Words.TheSendSync as words
-use Rattle.ms_loaders.proofs.naming.Names.TheSendSync as names
+use Rattle.ms_loader.proofs.naming.Names.TheSendSync as names
 use Rattle.ms_loaders.below.ms_blocks.proofs.tree.Tree.TheLaws.TheKnot.{send-Tree, send-Fork}
 use Rattle.ms_loaders.below.ms_commit.proofs.mask.Mask.TheSendSync as mask
 use Rattle.ms_loaders.below.ms_commit.proofs.nodes.Nodes.TheSendSync as nodes
@@ -26,7 +26,7 @@ use Rattle.ms_shared.below.atomic_table.proofs.shared.Seat.TheSendSync as table_
 use Rattle.ms_shared.below.atomic_table.proofs.shared.Shared.TheSendSync as table
 use Rattle.ms_shared.below.atomic_table.proofs.send_lease.SendLease.TheSendSync as lease
 use Rattle.ms_pool.specs.contracts.pool.Pool as pool
-use Rattle.ms_loaders.specs.contracts.loader.Loader as loader
+use Rattle.ms_loader.specs.contracts.loader.Loader as loader
 use Rattle.ms_shared.specs.contracts.seat.PoolSeat as seat
 use Rattle.ms_shared.specs.contracts.held_pool.HeldSeat as held
 use Rattle.ms_shared.specs.contracts.shared_pool.SharedPool as shared

@@ -16,16 +16,16 @@ use Rattle.std_alloc.proofs.SendSync.{quiet, lies}
 use Rattle.std_heap.proofs.Global.TheSendSync as handle
 use Rattle.ms_pool.proofs.account.Account.TheSendSync as account
 use Rattle.ms_arena.proofs.words.Words.TheSendSync as words
-use Rattle.ms_loaders.proofs.naming.Names.TheSendSync as names
-use Rattle.ms_loaders.proofs.loaders.owners.Owners.TheSendSync as owners
+use Rattle.ms_loader.proofs.naming.Names.TheSendSync as names
+use Rattle.ms_loader_map.proofs.loaders.owners.Owners.TheSendSync as owners
 use Rattle.ms_loaders.below.ms_blocks.proofs.tree.Tree.TheLaws.TheKnot.{send-Tree, send-Fork}
 use Rattle.ms_loaders.below.ms_commit.proofs.mask.Mask.TheSendSync as mask
 use Rattle.ms_loaders.below.ms_commit.proofs.nodes.Nodes.TheSendSync as nodes
 use Rattle.ms_pool.specs.contracts.pool.Pool as pool
-use Rattle.ms_loaders.specs.contracts.loaders.Loaders as loaders
-use Rattle.ms_loaders.specs.contracts.loaders.boxed.Boxed as boxed
-use Rattle.ms_loaders.specs.contracts.loaders.page.Page as page
-use Rattle.ms_loaders.specs.contracts.loaders.spares.Spares as spares
+use Rattle.ms_loader_map.specs.contracts.loaders.Loaders as loaders
+use Rattle.ms_loader_map.specs.contracts.loaders.boxed.Boxed as boxed
+use Rattle.ms_loader_map.specs.contracts.loaders.page.Page as page
+use Rattle.ms_loader_map.specs.contracts.loaders.spares.Spares as spares
 use Rattle.ms_loaders.specs.contracts.system.System as system
 use Rattle.ms_c.specs.Holding.{Held, held_by}
 use Rattle.ms_c.specs.contracts.slot.Slot.{the_row, the_type}

@@ -1,7 +1,7 @@
 use Rattle.std.proofs.Common.{◌≡◌, ◌∙◌, subst}
 use Rattle.ms_base.specs.Names.{named}
 use Rattle.ms_base.specs.State.{Machine}
-use Rattle.ms_loaders.specs.Amounts.{amounts_if}
+use Rattle.ms_loader.specs.Amounts.{amounts_if}
 use Rattle.ms_loaders.proofs.sums.UsedLemmas.{amounts_mapped}
 use Rattle.ms_loaders.proofs.system.System.amounts_by.Goals as goal
 

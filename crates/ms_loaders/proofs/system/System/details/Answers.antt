@@ -1,6 +1,6 @@
 use Rattle.std.proofs.Common.{map, ap, ◌∙◌}
 use Rattle.ms_base.specs.State.{Machine}
-use Rattle.ms_loaders.specs.Details.{loader_sums}
+use Rattle.ms_answers.specs.Details.{loader_sums}
 use Rattle.ms_loaders.proofs.system.System.details.Goals as goal
 
 pub returns : goal.returns

@@ -1,6 +1,6 @@
 use Rattle.std.proofs.Common.{sym}
-use Rattle.ms_loaders.proofs.calls.FindingLemmas.{live_is_freed}
-use Rattle.ms_loaders.proofs.calls.ReplacedLemmas.{ok_then, err_then}
+use Rattle.ms_loader.proofs.calls.FindingLemmas.{live_is_freed}
+use Rattle.ms_loader.proofs.calls.ReplacedLemmas.{ok_then, err_then}
 use Rattle.ms_loaders.proofs.steps.StepLemmas.{has_loader, lacks_loader}
 use Rattle.ms_loaders.proofs.system.System.free_block.Goals as goal
 

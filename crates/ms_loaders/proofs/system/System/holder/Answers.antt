@@ -5,7 +5,7 @@ use Rattle.std.proofs.lemmas.List.Elements.{recursion_from_All}
 use Rattle.ms_base.specs.Committed.{is_among}
 use Rattle.ms_pool.specs.Ledger.{Loan, Serves}
 use Rattle.ms_loaders.specs.Holder.{is_holder}
-use Rattle.ms_loaders.specs.Loader.{IsSoundView}
+use Rattle.ms_loader.specs.Loader.{IsSoundView}
 use Rattle.ms_loaders.specs.System.{accounts_of, owners_of, states_of}
 use Rattle.ms_loaders.proofs.sums.FitLemmas.{machine_is_good}
 use Rattle.ms_loaders.proofs.HolderLemmas.{holder_told, none_holds, only_told}

@@ -1,4 +1,4 @@
-use Rattle.ms_loaders.proofs.calls.ReplacedLemmas.{err_then}
+use Rattle.ms_loader.proofs.calls.ReplacedLemmas.{err_then}
 use Rattle.ms_loaders.proofs.StepServedLemmas.{new_leaves}
 use Rattle.ms_loaders.proofs.system.System.new_loader.Goals as goal
 

@@ -1,7 +1,7 @@
 use Rattle.std.proofs.Common.{◌≡◌, ◌∙◌, subst}
 use Rattle.ms_base.specs.Names.{named}
 use Rattle.ms_base.specs.State.{Machine}
-use Rattle.ms_loaders.specs.Used.{used_if}
+use Rattle.ms_loader_map.specs.Used.{used_if}
 use Rattle.ms_loaders.proofs.sums.UsedLemmas.{used_mapped}
 use Rattle.ms_loaders.proofs.system.System.used_by.Goals as goal
 

@@ -1,6 +1,6 @@
 use Rattle.std.proofs.Common.{List, ap, ◌∙◌}
 use Rattle.ms_course.specs.declared.course.LoaderThen.{LoaderThen}
-use Rattle.ms_loaders.specs.declared.details.LoaderDetails.{LoaderDetails}
+use Rattle.ms_answers.specs.declared.details.LoaderDetails.{LoaderDetails}
 use Rattle.ms_page.specs.Kinds.{kind_holdings}
 use Rattle.ms_page.proofs.picture.Picture.new.Goals as goal
 

@@ -1,0 +1,5 @@
+use Rattle.ms_loader.proofs.TableLemmas.{no_entries}
+use Rattle.ms_loader.proofs.naming.Names.new.Goals as goal
+
+pub returns : goal.returns
+returns c = record { empty = no_entries c.new.result c.new.ensures }

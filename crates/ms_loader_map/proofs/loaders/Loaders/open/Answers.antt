@@ -1,0 +1,19 @@
+use Rattle.std.proofs.Common.{ℕ, List, ◌∙◌, ap}
+use Rattle.ms_base.specs.Names.{named, with_new}
+use Rattle.ms_loader.specs.Loader.{LoaderView}
+use Rattle.ms_loader_map.proofs.loaders.Loaders.open.Goals as goal
+
+-- The loaders are the same once room was made.
+pub stand-requires-clause-unused : goal.stand-requires-clause-unused
+stand-requires-clause-unused c =
+    ap (λ (loaders : List (ℕ × LoaderView)). named loaders c.args.name) (c.make_room.ensures ∙ c.self.view_is)
+    ∙ c.requires.unused
+
+pub returns-in-Ok-stand-clause-made : goal.returns-in-Ok-stand-clause-made
+returns-in-Ok-stand-clause-made c = c.in-Ok-stand.ensures.stands
+    ∙ ap (λ (loaders : List (ℕ × LoaderView)). with_new loaders c.args.name c.in-Ok.boxed.1)
+    (c.make_room.ensures ∙ c.self.view_is)
+    ∙ ap (λ (boxed : ℕ × LoaderView). with_new c.args.self.now c.args.name boxed.1) c.in-Ok.ensures.made
+
+pub returns-in-Err-stand-clause-unchanged : goal.returns-in-Err-stand-clause-unchanged
+returns-in-Err-stand-clause-unchanged c = c.in-Err-stand.ensures.unchanged ∙ c.make_room.ensures ∙ c.self.view_is

@@ -1,0 +1,5 @@
+pub mod Boxed
+pub mod Slots
+pub mod Lent
+pub mod Loaders
+pub mod Used

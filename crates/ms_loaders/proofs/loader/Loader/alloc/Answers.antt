@@ -1,4 +1,0 @@
-use Rattle.ms_loaders.proofs.loader.Loader.alloc.Goals as goal
-
-pub returns-clause-allocates : goal.returns-clause-allocates
-returns-clause-allocates g c = c.allocate.ensures.allocates

@@ -1,8 +1,0 @@
-use Rattle.ms_loaders.proofs.loaders.Loaders.close.Goals as goal
-
-pub returns-in-Some-clause-found : goal.returns-in-Some-clause-found
-returns-in-Some-clause-found c = record {
-  loader = c.in-Some.boxed.1;
-  found = c.in-Some.ensures.found;
-  own = c.close-account.ensures;
-}
