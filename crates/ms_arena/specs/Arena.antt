@@ -70,6 +70,13 @@ pub record IsAskable (words : ℕ) : Type 0 where
   pub some : 1 ≤ words
   pub fits : words ≤ size_of 0
 
+-- So many words is what the block of a request has: at least two, and no more than a root.
+pub record IsAsked (request n : ℕ) : Type 0 where
+  pub words_of : n ≡ block_words request
+  pub askable : IsAskable request
+  pub some : 2 ≤ n
+  pub fits_root : n ≤ size_of 0
+
 -- Why no place was looked for: no words, too many, or memory is wanting.
 abbrev pub PlaceRefused : ℕ → Refusal → Type 0
 PlaceRefused words ZeroWords = words ≡ 0

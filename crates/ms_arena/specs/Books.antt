@@ -42,6 +42,14 @@ abbrev pub arena_over : BooksView → Kind → List (ℕ × List ℕ) → ArenaV
 arena_over books kind live =
     record { owner = books.owner; space = books.space; kind = kind; books = books.state; live = live }
 
+-- Beside so many live blocks there is room for one more: for its top, and for free blocks, its own when it is
+-- freed and the rest of a chunk that retires.
+pub record HaveRoomBeside (live : ℕ) (books : BooksView) : Type 0 where
+  pub room : live + 2 ≤ books.room
+  pub fits : live + 2 < 2 ^ 64
+  pub ordered : books.came ≡ 0
+  pub spare_tops : 0 < books.spare_tops
+
 -- The books are as they were, but for room, of which there is no less.
 pub record IsSameBooks (old new : BooksView) : Type 0 where
   pub rest : new ≡ record old { room = new.room; came = new.came; spare_tops = new.spare_tops }

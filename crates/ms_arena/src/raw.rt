@@ -24,10 +24,10 @@ ghost use Rattle.ms_base.specs.Totals.{used_of, kept_of};
 ghost use Rattle.ms_blocks.specs.FreeBlocks.{run_of};
 ghost use Rattle.ms_pool.specs.Account.{AreChunks};
 ghost use Rattle.ms_pool.specs.Source.{LeavesRest, IsTakeRefusal};
-ghost use Rattle.ms_arena.specs.Arena.{IsAskable, Places, PlaceRefused, AllocRefused, block_at};
+ghost use Rattle.ms_arena.specs.Arena.{IsAskable, IsAsked, Places, PlaceRefused, AllocRefused, block_at};
 ghost use Rattle.ms_arena.specs.Alloc.{Allocates, FindsPlace, AsksChunk, TakesNew};
 ghost use Rattle.ms_arena.specs.ArenaSums.{AreSumsOf};
-ghost use Rattle.ms_arena.specs.Books.{AsksFor, Awaits, ForAllLive, HasLooked, IsSameBooks, MayLook};
+ghost use Rattle.ms_arena.specs.Books.{AsksFor, Awaits, ForAllLive, HasLooked, HaveRoomBeside, IsSameBooks, MayLook};
 ghost use Rattle.ms_arena.specs.Raw.{FreesRun, Gains, IsNewRaw, IsSameRaw, live_then, live_with, raw_account, with_live};
 ghost use Rattle.ms_arena.specs.Words.{HasRoom, IsThere, Opens, StayWords, Writes, value_at};
 
@@ -286,11 +286,8 @@ impl RawArena {
 
 /// Returns how many words the block of a request has.
 fn asked(words: u64) -> Result<u64, Refusal>
-    ensures words { IfOk result (λ n. n ≡ block_words words) }
-    ensures askable { OnOk result (IsAskable words) }
-    ensures some { IfOk result (λ n. 2 ≤ n) }
-    ensures fits { IfOk result (λ n. n ≤ size_of 0) }
-    ensures refused { IfErr result (λ refusal. PlaceRefused words refusal) }
+    ensures asked { IfOk result (IsAsked words) }
+    ensures refused { IfErr result (PlaceRefused words) }
 {
     match words {
         0 => Err(Refusal::ZeroWords),
@@ -323,15 +320,9 @@ fn made_room(
     live: usize,
     request: u64,
 ) -> Result<u64, Refusal>
-    ensures words_of { IfOk result (λ n. n ≡ block_words request) }
-    ensures askable { OnOk result (IsAskable request) }
-    ensures some { IfOk result (λ n. 2 ≤ n) }
-    ensures fits_root { IfOk result (λ n. n ≤ size_of 0) }
-    ensures refused { IfErr result (λ refusal. PlaceRefused request refusal) }
-    ensures room { OnOk result (live + 2 ≤ books.new.room) }
-    ensures fits { OnOk result (live + 2 < 2 ^ 64) }
-    ensures ordered { OnOk result (books.new.came ≡ 0) }
-    ensures spare_tops { OnOk result (0 < books.new.spare_tops) }
+    ensures asked { IfOk result (IsAsked request) }
+    ensures refused { IfErr result (PlaceRefused request) }
+    ensures beside { OnOk result (HaveRoomBeside live books.new) }
     ensures run { IfOk result (λ n. HasRoom words.new n) }
     ensures books { IsSameBooks books.old books.new }
     ensures words { StayWords words.old words.new }

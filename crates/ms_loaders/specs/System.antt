@@ -1,5 +1,5 @@
 -- What the parts of a system stand for together, and what holds of them.
-use Rattle.std.specs.Prelude.{◌≡◌, ℕ, ⊤, ◌≤◌, ◌==◌, List, [], ◌∷◌, length, map, Result, Ok, Err, IsTrue}
+use Rattle.std.specs.Prelude.{◌≡◌, ℕ, ⊤, ◌≤◌, ◌==◌, List, [], ◌∷◌, length, map, IsTrue}
 use Rattle.std.specs.List.{All, flat_map, count_by}
 use Rattle.std.specs.Map.{values_of}
 use Rattle.ms_base.specs.declared.kind.Space.TheVariants.{NonClass, Class}
@@ -7,7 +7,6 @@ use Rattle.ms_base.specs.declared.step.Step.{Step}
 use Rattle.ms_base.specs.declared.step.Step.TheVariants.{Alloc, Calloc, Read}
 use Rattle.ms_base.specs.declared.step.Reply.{Reply}
 use Rattle.ms_base.specs.declared.step.Reply.TheVariants.{Refused}
-use Rattle.ms_base.specs.declared.refusal.Refusal.{Refusal}
 use Rattle.ms_base.specs.Names.{AreNamed}
 use Rattle.ms_base.specs.Committed.{is_among}
 use Rattle.ms_base.specs.State.{LoaderState, Machine}
@@ -57,11 +56,6 @@ pub record AreTogether (ledger : Ledger) (loaders : List (ℕ × LoaderView)) : 
   pub loaders_sound : All IsSoundView (values_of loaders)
   pub names : AreNamed loaders
   pub served : AreServed ledger loaders
-
--- The reply that a result stands for.
-abbrev pub reply_of : Result Reply Refusal → Reply
-reply_of (Ok reply) = reply
-reply_of (Err refusal) = Refused refusal
 
 -- A step whose reply has no value, and a reply that is no refusal.
 abbrev pub HasNoValue : Step → Type 0

@@ -14,7 +14,7 @@ ghost use Rattle.ms_base.specs.Transition.{Transition, LacksLoader};
 ghost use Rattle.ms_base.specs.Run.{Run};
 ghost use Rattle.ms_base.specs.Names.{named};
 ghost use Rattle.ms_base.specs.Laws.Sum.{HoldsNothing};
-ghost use Rattle.ms_loaders.specs.System.{HasNoValue, IsNoRefusal, reply_of};
+ghost use Rattle.ms_loaders.specs.System.{HasNoValue};
 ghost use Rattle.ms_answers.specs.Sums.{sums_in};
 ghost use Rattle.ms_loader.specs.Amounts.{amounts_if};
 ghost use Rattle.ms_loader_map.specs.Used.{used_if};
@@ -221,17 +221,6 @@ impl System {
         reply
     }
 
-    /// Takes one step of the machine, with a refusal as an error.
-    fn serve(&mut self, step: Step) -> Result<Reply, Refusal>
-        ensures step { Transition self.old step (reply_of result) self.new }
-        ensures plain { IfOk result IsNoRefusal }
-    {
-        match self.step(step) {
-            Reply::Refused(refusal) => Err(refusal),
-            reply => Ok(reply),
-        }
-    }
-
     /// Takes a step whose reply has no value.
     fn carry_out(&mut self, step: Step) -> Result<(), Refusal>
         requires { HasNoValue step }
@@ -239,9 +228,9 @@ impl System {
         ensures refused { IfErr result
             (λ refusal. Transition self.old step (Reply.Refused refusal) self.new) }
     {
-        match self.serve(step) {
-            Ok(_reply) => Ok(()),
-            Err(refusal) => Err(refusal),
+        match self.step(step) {
+            Reply::Refused(refusal) => Err(refusal),
+            _reply => Ok(()),
         }
     }
 
@@ -256,10 +245,7 @@ impl System {
     {
         let mut replies = Vec::with_capacity(self.alloc, steps.len())?;
         for step in steps {
-            let reply = match self.serve(*step) {
-                Ok(reply) => reply,
-                Err(refusal) => Reply::Refused(refusal),
-            };
+            let reply = self.step(*step);
             replies.push_reserved(reply);
         }
         // That the state is good is learnt here.
