@@ -64,7 +64,8 @@ impl Model for Loader {
     ghost invariant = { IsLoader };
 }
 
-/// Returns whether a word lies in the class space.
+/// Returns whether a word, by its number, lies in the class space. Takes no memory. This project's
+/// choice.
 pub fn is_class(start: u64) -> bool
     ensures { result ≡ is_in Class start }
 {
