@@ -1,6 +1,6 @@
 -- Why no block gets a name, from what the arena or the table tells. `allocate_in` and those that it
 -- calls use this, and the loader's `allocate`.
-use Rattle.std.proofs.Common.{◌≡◌, ℕ, ◌⊎◌, Some, None, Result, Ok, Err, List, inl, inr, ◌∙◌}
+use Rattle.std.proofs.Common.{◌≡◌, ℕ, None, Result, Ok, Err, List, inl, inr}
 use Rattle.std.specs.Prelude.{IfErr, IsErrAnd}
 use Rattle.std.proofs.lemmas.Result.{err_from_is_err_and}
 use Rattle.ms_base.specs.declared.span.Block.{Block}
