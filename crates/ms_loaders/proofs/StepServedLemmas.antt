@@ -19,7 +19,7 @@ use Rattle.ms_base.specs.Transition.{Transition, LacksLoader}
 use Rattle.ms_base.proofs.entries.EntryLemmas.{Split, split_at}
 use Rattle.ms_pool.specs.Ledger.{Ledger, Serves, IsSoundLedger, opened_in}
 use Rattle.ms_loader.specs.Loader.{LoaderView}
-use Rattle.ms_loaders.specs.System.{AreTogether, HasNoValue, IsNoRefusal}
+use Rattle.ms_loaders.specs.System.{AreTogether, HasNoValue}
 use Rattle.ms_loaders.specs.Serving.{MayServe, Served}
 use Rattle.ms_loaders.proofs.steps.StillTogetherLemmas.{own_served}
 use Rattle.ms_loaders.proofs.steps.StepLemmas.{lacks_loader}
@@ -101,10 +101,11 @@ may_serve ledger loaders its = record {
         go Class = omega (arith, its.served.class_opened, some)
 
 -- A step whose reply has no value is done or refused.
-pub is_done : (old new : Machine) (step : Step) (reply : Reply) → HasNoValue step → IsNoRefusal reply
+pub is_done : (old new : Machine) (step : Step) (reply : Reply) → HasNoValue step
+    → ((refusal : Refusal) → reply ≢ Refused refusal)
     → Transition old step reply new → Transition old step Done new
 is_done old new step Done plain served goes = goes
-is_done old new step (Refused refusal) plain served goes = absurd served
+is_done old new step (Refused refusal) plain served goes = absurd (served refusal refl)
 is_done old new (New name kind) (At start) plain served goes = absurd goes.0
 is_done old new (Alloc name block words) (At start) plain served goes = absurd plain
 is_done old new (Calloc name block words) (At start) plain served goes = absurd plain

@@ -5,8 +5,6 @@ use Rattle.std.specs.Map.{values_of}
 use Rattle.ms_base.specs.declared.kind.Space.TheVariants.{NonClass, Class}
 use Rattle.ms_base.specs.declared.step.Step.{Step}
 use Rattle.ms_base.specs.declared.step.Step.TheVariants.{Alloc, Calloc, Read}
-use Rattle.ms_base.specs.declared.step.Reply.{Reply}
-use Rattle.ms_base.specs.declared.step.Reply.TheVariants.{Refused}
 use Rattle.ms_base.specs.Names.{AreNamed}
 use Rattle.ms_base.specs.Committed.{is_among}
 use Rattle.ms_base.specs.State.{LoaderState, Machine}
@@ -57,13 +55,9 @@ pub record AreTogether (ledger : Ledger) (loaders : List (ℕ × LoaderView)) : 
   pub names : AreNamed loaders
   pub served : AreServed ledger loaders
 
--- A step whose reply has no value, and a reply that is no refusal.
+-- A step whose reply has no value.
 abbrev pub HasNoValue : Step → Type 0
 HasNoValue (Alloc name block words) = ⊥
 HasNoValue (Calloc name block words) = ⊥
 HasNoValue (Read name block index) = ⊥
 HasNoValue _ = ⊤
-
-abbrev pub IsNoRefusal : Reply → Type 0
-IsNoRefusal (Refused refusal) = ⊥
-IsNoRefusal _ = ⊤

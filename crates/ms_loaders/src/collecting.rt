@@ -10,7 +10,7 @@ ghost use Rattle.ms_loaders.specs.Collecting.{AreFew, IsGathered, row_made, spac
 ghost use Rattle.ms_pool.specs.Calls.{sums_in as pool_in};
 
 use crate::in_use::InUse;
-use ms_answers::{LoaderRow, SpaceTotals};
+use ms_answers::{LoaderDetails, LoaderRow, SpaceTotals};
 use ms_arena::ArenaTotals;
 use ms_base::{Kind, NODE_WORDS};
 use ms_loader_map::Loaders;

@@ -245,7 +245,11 @@ impl System {
     {
         let mut replies = Vec::with_capacity(self.alloc, steps.len())?;
         for step in steps {
-            let reply = self.step(*step);
+            // A refusal is named, or the toolchain's borrow checker doesn't find its type.
+            let reply = match self.step(*step) {
+                Reply::Refused(refusal) => Reply::Refused(refusal),
+                done => done,
+            };
             replies.push_reserved(reply);
         }
         // That the state is good is learnt here.

@@ -1,4 +1,4 @@
-use Rattle.std.proofs.Common.{Result, Ok, Err, OnErr, refl, take, get_or, arith, subst}
+use Rattle.std.proofs.Common.{◌≡◌, Result, Ok, Err, OnErr, refl, sym, ◌∙◌, take, get_or, arith, subst}
 use Rattle.std.proofs.lemmas.List.{take_more}
 use Rattle.ms_base.specs.declared.step.Step.TheVariants.{New}
 use Rattle.ms_base.specs.declared.kind.Kind.TheVariants.{Standard}
@@ -7,6 +7,7 @@ use Rattle.ms_base.proofs.granules.FrontSumLemmas.{nothing_is_left}
 use Rattle.ms_loaders.proofs.sums.FitLemmas.{machine_is_good}
 use Rattle.ms_loaders.proofs.steps.RunLemmas.{run_on}
 use Rattle.ms_loaders.proofs.system.System.run.Goals as goal
+use Rattle.ms_loaders.proofs.system.System.run.Goals.{in-Refused, in_default}
 
 pub returns-in_err-replies-clause-before : goal.returns-in_err-replies-clause-before
 returns-in_err-replies-clause-before c =
@@ -23,6 +24,11 @@ returns-in_err-replies-clause-emptied c =
 
 pub loop-step-preserved : goal.loop-step-preserved
 loop-step-preserved c =
+    let same : c.step.result ≡ c.match-step.reply =
+    elim c.match-step.branch [
+      | in-Refused w ↦ w.in-Refused.is ∙ sym w.reply-is
+      | in_default w ↦ sym w.reply-is
+    ] in
     record {
       so_far =
           rw (
@@ -30,9 +36,9 @@ loop-step-preserved c =
             c.push_reserved.ensures.items,
           )
           (run_on (take c.loop-step.step-index c.args.steps.now) c.loop-step.replies.items c.args.self.now
-          c.loop-step.self c.step-reply.new.self
-          (get_or c.args.steps.now c.loop-step.step-index (New 0 Standard)) c.step-reply.result
-          c.loop-step.invariant.so_far c.step-reply.ensures.step);
+          c.loop-step.self c.step.new.self
+          (get_or c.args.steps.now c.loop-step.step-index (New 0 Standard)) c.match-step.reply
+          c.loop-step.invariant.so_far (rw same at c.step.ensures.step));
       told = omega (arith, c.push_reserved.ensures.len, c.loop-step.invariant.told);
       room = omega (arith, c.push_reserved.ensures.capacity, c.loop-step.invariant.room);
     }
