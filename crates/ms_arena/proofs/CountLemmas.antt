@@ -8,7 +8,7 @@ use Rattle.std.specs.List.{count_by}
 use Rattle.std.proofs.lemmas.Bool.{cases_eq, cases_lt}
 use Rattle.std.proofs.lemmas.List.{get_or_append_left, get_or_default, get_or_past}
 use Rattle.std.proofs.lemmas.List.Sums.{sum_by-cons}
-use Rattle.ms_arena.specs.declared.pages.Page.{Page}
+use Rattle.ms_arena.specs.declared.words.pages.Page.{Page}
 use Rattle.ms_arena.specs.Pages.{AreCounted, Clears, HasNoneWritten, PagesView, base_of, is_written, no_page, page_at}
 use Rattle.ms_arena.specs.Pages.{word_at, written_from}
 use Rattle.ms_arena.proofs.PagesLemmas.{written_there}

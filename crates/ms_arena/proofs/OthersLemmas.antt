@@ -5,7 +5,7 @@ use Rattle.std.proofs.lemmas.Bool.Decides.{nat_tests}
 use Rattle.std.specs.Prelude.{nat_eq, slice_index_or}
 use Rattle.std.specs.Map.{lookup}
 use Rattle.std.proofs.lemmas.List.{take_more}
-use Rattle.ms_arena.specs.declared.positions.Positioned.{Positioned}
+use Rattle.ms_arena.specs.declared.words.positions.Positioned.{Positioned}
 use Rattle.ms_arena.specs.Others.{AreGroups, entries_onto, position_listed}
 
 -- One more at the list's end comes first.

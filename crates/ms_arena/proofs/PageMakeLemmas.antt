@@ -6,7 +6,7 @@ use Rattle.std.proofs.Common.{get_or-set_same, length-set, subst, zero, suc}
 use Rattle.std.specs.Prelude.{nat_lt, slice_set}
 use Rattle.std.specs.List.{count_by}
 use Rattle.std.proofs.lemmas.Bool.{cases_eq, lt-ltb}
-use Rattle.ms_arena.specs.declared.pages.Page.{Page}
+use Rattle.ms_arena.specs.declared.words.pages.Page.{Page}
 use Rattle.ms_arena.specs.Pages.{PagesView, ArePages, word_at, word_in, page_at, base_of, is_stored, no_page}
 use Rattle.ms_arena.proofs.PagesLemmas.{one_if_stored, counted, outside, page_is}
 

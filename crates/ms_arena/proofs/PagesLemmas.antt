@@ -9,7 +9,7 @@ use Rattle.std.specs.List.{count_by}
 use Rattle.std.proofs.lemmas.Bool.{cases_lt, false≢true}
 use Rattle.std.proofs.lemmas.List.{length-append, length-replicate, get_or_default, get_or_past}
 use Rattle.std.proofs.lemmas.List.Sums.{sum_by-cons, sum_by-append, count_by-le-length}
-use Rattle.ms_arena.specs.declared.pages.Page.{Page}
+use Rattle.ms_arena.specs.declared.words.pages.Page.{Page}
 use Rattle.ms_arena.specs.Pages.{PagesView, ArePages, word_at, page_at, base_of, is_stored, no_page}
 
 abbrev pub one_if_stored : Page → ℕ

@@ -5,7 +5,7 @@ use Rattle.std.proofs.Common.{inl, inr}
 use Rattle.std.specs.Prelude.{nat_eq}
 use Rattle.std.proofs.lemmas.Bool.{cases_eq}
 use Rattle.std.proofs.lemmas.Bool.Decides.{nat_tests}
-use Rattle.ms_arena.specs.declared.positions.Positioned.{Positioned}
+use Rattle.ms_arena.specs.declared.words.positions.Positioned.{Positioned}
 use Rattle.ms_arena.specs.Others.{OthersView, StayPositioned}
 use Rattle.ms_arena.specs.Positions.{position_given, position_in}
 

@@ -3,9 +3,9 @@ use Rattle.std.specs.Prelude.{◌≡◌, ℕ, ◌+◌, ◌-◌, ◌*◌, ◌/◌
 use Rattle.std.specs.Prelude.{slice_index_or, vec_capacity, vec_len}
 use Rattle.std.specs.Map.{lookup}
 use Rattle.std.specs.Option.{unwrap_or}
-use Rattle.ms_arena.specs.declared.others.Table.{Table}
-use Rattle.ms_arena.specs.declared.others.Table.TheVariants.{Few, Many}
-use Rattle.ms_arena.specs.declared.positions.Positioned.{Positioned}
+use Rattle.ms_arena.specs.declared.words.others.Table.{Table}
+use Rattle.ms_arena.specs.declared.words.others.Table.TheVariants.{Few, Many}
+use Rattle.ms_arena.specs.declared.words.positions.Positioned.{Positioned}
 
 -- Each stretch of a list with its position, where the first that is found counts; or the numbers of
 -- groups, and the positions by number; and for how many stretches more there is room.

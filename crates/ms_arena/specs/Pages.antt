@@ -4,7 +4,7 @@
 use Rattle.std.specs.Prelude.{◌≡◌, ℕ, ◌+◌, ◌-◌, ◌*◌, ◌/◌, ◌%◌, ◌<◌, ◌≤◌, Bool, true, false, cond, List, length}
 use Rattle.std.specs.Prelude.{drop, nat_lt, slice_index, slice_index_or, take}
 use Rattle.std.specs.List.{count_by}
-use Rattle.ms_arena.specs.declared.pages.Page.{Page}
+use Rattle.ms_arena.specs.declared.words.pages.Page.{Page}
 
 -- The pages, by their number, the store, and how many pages there is room for.
 pub record PagesView : Type 0 where

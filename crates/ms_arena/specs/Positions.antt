@@ -1,7 +1,7 @@
 -- The positions of stretches in a list (our choice).
 use Rattle.std.specs.Prelude.{◌≡◌, ℕ, ◌+◌, ◌-◌, ◌<◌, ◌≤◌, cond, nat_eq, nat_le, nat_lt, List, Option, None, Some, slice_index_or}
-use Rattle.ms_arena.specs.declared.positions.Positioned.{Positioned}
-use Rattle.ms_arena.specs.declared.positions.Run.{Run}
+use Rattle.ms_arena.specs.declared.words.positions.Positioned.{Positioned}
+use Rattle.ms_arena.specs.declared.words.positions.Run.{Run}
 use Rattle.ms_arena.specs.Others.{OthersView, position_among}
 
 -- The stretch that got its position last, and the positions of the others.

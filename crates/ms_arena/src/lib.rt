@@ -10,9 +10,6 @@
 mod arena;
 mod books;
 mod kept;
-mod others;
-mod pages;
-mod positions;
 mod raw;
 mod totals;
 mod words;

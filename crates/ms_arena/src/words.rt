@@ -15,8 +15,12 @@ ghost use Rattle.std.specs.Prelude.{◌≡◌, ℕ, ◌+◌, ◌-◌, ◌*◌, �
 ghost use Rattle.ms_arena.specs.Positions.{position_of};
 ghost use Rattle.ms_arena.specs.Words.{StayWords, HasRoom, Opens, OpensIn, IsThere, Writes, position_at, value_at};
 
-use crate::pages::Pages;
-use crate::positions::Positions;
+mod others;
+mod pages;
+mod positions;
+
+use pages::Pages;
+use positions::Positions;
 use std::alloc::{AllocError, Global};
 use std::marker::Model;
 
