@@ -22,7 +22,7 @@ returns-clause-lines c =
     owner_is known.loaders c.args.arena c.in-Some-copied.loader (Some life) arena
     (ap (option_map life_of) (sym c.in-Some-get_mut.ensures.value)) in
     puts_some (known.request_of c.args.thread >>= (λ (r : Request). r.line)) request.line _ c.args.self.now.held
-    c.put.new.self (record { command = Asks c.allocating.result; address = c.unwrap_or.result })
+    c.put.new.self.entries.items (record { command = Asks c.allocating.result; address = c.unwrap_or.result })
     (allocating_is c.args.space _ _ request life asked owns c.in-Some-next_block.ensures.some
     ∙ ap (λ (step : Step). Some (Asks step)) (sym c.allocating.ensures))
     (ap (λ (r : Option Request). r >>= (λ (its : Request). its.line)) asked) c.in_ok-put.ensures.in_place

@@ -6,7 +6,8 @@ use Rattle.jvm_log.proofs.machine.Machine.take_in.Goals as goal
 pub returns-clause-lines : goal.returns-clause-lines
 returns-clause-lines c =
     lines_between c.args.said c.args.self.now c.begin-late.new.self c.heed.new.self c.shorten.new.self
-    c.begin-late.ensures.rest c.shorten.ensures.names c.shorten.ensures.no_line c.in_ok-trouble.ensures.lines
+    c.begin-late.ensures.rest c.shorten.ensures.names c.shorten.ensures.lines c.shorten.ensures.fixed c.heed.ensures.fixed
+    c.in_ok-trouble.ensures.lines
 
 pub returns-clause-requests : goal.returns-clause-requests
 returns-clause-requests c =
