@@ -14,7 +14,7 @@ use Rattle.jvm_log.specs.declared.held.Held.{Held}
 use Rattle.jvm_log.specs.declared.loader.Block.{Block}
 use Rattle.jvm_log.specs.declared.loader.Request.{Request}
 use Rattle.jvm_log.specs.declared.placed.Placed.{Placed}
-use Rattle.jvm_log.specs.Held.{opening, shortened, with_line, without_line}
+use Rattle.jvm_log.specs.Held.{shortened, with_line, without_line}
 use Rattle.jvm_log.specs.Known.{Known, Life, owner_of}
 use Rattle.jvm_log.specs.Parts.{◌>>=◌}
 use Rattle.jvm_log.specs.Steps.{step_for}
@@ -48,10 +48,11 @@ abbrev pub plain : Command → Command
 plain (Asks (New loader kind)) = Asks (New loader Standard)
 plain command = command
 
--- So is a line, and without where its block lies.
+-- A line of such a command, without where its block lies.
 abbrev pub whole : Command → Entry
 whole command = Whole (record { command = plain command; address = 0 })
 
+-- An entry as such a line, or as it waits.
 abbrev pub bare : Entry → Entry
 bare (Whole line) = whole line.command
 bare (Born loader) = whole (Asks (New loader Standard))
@@ -132,7 +133,7 @@ Gives thread (Enlarged base) known used new = Passes thread known new
 Gives thread (Committed words) known used new = Passes thread known new
 Gives thread event known used new = Adds (ending event known) known.held.entries.items new
 
--- They keep their numbers, and too many are held back for one line of the log alone.
+-- They keep their numbers, and where they are too many the first waits no longer.
 pub record Takes (thread : ℕ) (event : Event) (known : Known) (used : List Bool) (new : Held) : Type 0 where
   pub lines : List Entry
   pub come : Gives thread event known used lines

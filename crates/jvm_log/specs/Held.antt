@@ -40,7 +40,7 @@ is_asked entry = false
 abbrev pub asks_at : ℕ → Held → Bool
 asks_at number held = if nat_le held.first number then is_asked (slice_get held.entries.items (number - held.first)) else false
 
--- The entry of that number becomes another while it waits for an answer.
+-- The entry of that number becomes another where it waits for an answer; otherwise the entries are these.
 abbrev pub answered : ℕ → Entry → List Entry → Held → List Entry
 answered number entry otherwise held =
     if asks_at number held then slice_set held.entries.items (number - held.first) entry else otherwise

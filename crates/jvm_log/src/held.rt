@@ -147,7 +147,6 @@ impl Held {
 
     /// Takes back a request's line of that number, where it isn't whole yet.
     pub(crate) fn cancel(&mut self, number: u64)
-        ensures no_line { waiting self.new.entries.items ≡ waiting self.old.entries.items }
         ensures lines { self.new.entries.items ≡ without_line (Some number) self.old }
         ensures rest { self.new ≡ record self.old { entries = self.new.entries } }
     {
@@ -193,7 +192,6 @@ impl Held {
 
     /// Gives up waiting for the first line.
     pub(crate) fn settle_first(&mut self)
-        ensures no_line { waiting self.new.entries.items ≡ waiting self.old.entries.items }
         ensures lines { self.new.entries.items ≡ settled_first self.old.entries.items }
         ensures rest { self.new ≡ record self.old { entries = self.new.entries } }
     {
@@ -244,8 +242,7 @@ fn is_open(entry: Entry) -> bool
 
 /// Returns what stands for an entry of which nothing more will be known.
 fn settled(entry: Entry) -> Entry
-    ensures known { known_of result ≡ known_of entry }
-    ensures is { result ≡ settled_as entry }
+    ensures { result ≡ settled_as entry }
 {
     match entry {
         Entry::Born(loader) => Entry::Whole(opening(loader, Kind::Standard)),

@@ -118,7 +118,6 @@ impl Machine {
     /// Takes in that the log has begun, and returns what the first event of the metaspace shows to
     /// be wrong.
     fn begin(&mut self, event: Event) -> Option<Trouble>
-        ensures no_line { waiting_in self.new ≡ waiting_in self.old }
         ensures names { names_in self.new ≡ names_in self.old }
         ensures rest { self.new ≡ record self.old { began = self.new.began } }
     {
@@ -135,7 +134,6 @@ impl Machine {
     /// Gives up waiting for the first line, where too many are held back.
     fn shorten(&mut self)
         ensures lines { lines_in self.new ≡ shortened (lines_in self.old) }
-        ensures no_line { waiting_in self.new ≡ waiting_in self.old }
         ensures names { names_in self.new ≡ names_in self.old }
         ensures rest { self.new ≡ record self.old { held = self.new.held } }
         ensures fixed { fixed_in self.new ≡ fixed_in self.old }
@@ -146,7 +144,7 @@ impl Machine {
     }
 
     /// Does what an event asks.
-    #[tactic(auto, using(crate::proofs::NameLemmas::uses_quiet, crate::proofs::NameLemmas::uses_same, crate::proofs::GivingLemmas::adds_none, crate::proofs::GivingLemmas::adds_quiet, crate::proofs::KnownLemmas::asks_none, crate::proofs::KnownLemmas::same_is, crate::proofs::KnownLemmas::keeps_is))]
+    #[tactic(auto, using(crate::proofs::NameLemmas::uses_passing, crate::proofs::NameLemmas::uses_quiet, crate::proofs::NameLemmas::uses_same, crate::proofs::GivingLemmas::adds_none, crate::proofs::GivingLemmas::adds_quiet, crate::proofs::KnownLemmas::asks_none, crate::proofs::KnownLemmas::same_is, crate::proofs::KnownLemmas::keeps_is))]
     fn heed(&mut self, said: Said) -> Result<Option<Trouble>, AllocError>
         ensures lines { OnOk result (Gives said.thread said.event (known_in self.old) (names_in self.new)
             (lines_in self.new)) }
@@ -307,7 +305,6 @@ impl Machine {
             (asked ((loaders_in self.old).owner_at arena) arena words) q) }
         ensures loaders { loaders_in self.new ≡ loaders_in self.old }
         ensures lines { OnOk result (GivesUp thread (known_in self.old) (lines_in self.new)) }
-        ensures no_line { waiting_in self.new ≡ waiting_in self.old }
         ensures names { names_in self.new ≡ names_in self.old }
         ensures fixed { fixed_in self.new ≡ fixed_in self.old }
     {
@@ -332,7 +329,6 @@ impl Machine {
         ensures requests { (q : ℕ) → request_of self.new q ≡ update nat_eq (request_of self.old) thread None q }
         ensures rest { self.new ≡ record self.old { requests = self.new.requests; held = self.new.held } }
         ensures lines { GivesUp thread (known_in self.old) (lines_in self.new) }
-        ensures no_line { waiting_in self.new ≡ waiting_in self.old }
         ensures names { names_in self.new ≡ names_in self.old }
         ensures fixed { fixed_in self.new ≡ fixed_in self.old }
     {
@@ -345,7 +341,6 @@ impl Machine {
     fn abandon(&mut self, request: Request)
         ensures rest { self.new ≡ record self.old { held = self.new.held } }
         ensures lines { lines_in self.new ≡ without_line request.line (known_in self.old).held }
-        ensures no_line { waiting_in self.new ≡ waiting_in self.old }
         ensures names { names_in self.new ≡ names_in self.old }
         ensures fixed { fixed_in self.new ≡ fixed_in self.old }
     {
@@ -361,7 +356,6 @@ impl Machine {
         ensures requests { OnOk result ((q : ℕ)
             → request_of self.new q ≡ update nat_eq (request_of self.old) thread None q) }
         ensures lines { OnOk result (GivesUp thread (known_in self.old) (lines_in self.new)) }
-        ensures no_line { waiting_in self.new ≡ waiting_in self.old }
         ensures names { names_in self.new ≡ names_in self.old }
         ensures fixed { fixed_in self.new ≡ fixed_in self.old }
     {
@@ -378,7 +372,6 @@ impl Machine {
         ensures requests { OnOk result ((q : ℕ) → request_of self.new q ≡ update nat_eq (request_of self.old) thread
             (option_map (passed self.old.held) (request_of self.old thread)) q) }
         ensures lines { OnOk result (Passes thread (known_in self.old) (lines_in self.new)) }
-        ensures no_line { OnOk result (waiting_in self.new ≡ waiting_in self.old) }
         ensures names { names_in self.new ≡ names_in self.old }
         ensures fixed { fixed_in self.new ≡ fixed_in self.old }
     {
@@ -464,7 +457,6 @@ impl Machine {
         ensures requests { self.new.requests ≡ self.old.requests }
         ensures blocks { OnOk result (Tells thread address (blocks_in self.old) (blocks_in self.new)) }
         ensures lines { lines_in self.new ≡ lines_in self.old }
-        ensures no_line { waiting_in self.new ≡ waiting_in self.old }
         ensures names { names_in self.new ≡ names_in self.old }
         ensures fixed { fixed_in self.new ≡ fixed_in self.old }
     {
