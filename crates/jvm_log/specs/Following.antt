@@ -1,17 +1,19 @@
 -- What a machine has given after lines of a log: the commands that went out, in their order, and what it knows then.
-use Rattle.std.specs.Prelude.{◌≡◌, ℕ, Bool, false, List, [], ◌∷◌, ◌++◌, Option, Some, None}
+use Rattle.std.specs.Prelude.{◌≡◌, ℕ, Bool, true, false, List, [], ◌∷◌, ◌++◌, Option, Some, None}
 use Rattle.std.specs.List.{All}
 use Rattle.ms_trace.specs.declared.trace.Command.{Command}
 use Rattle.jvm_log.specs.declared.event.Said.{Said}
+use Rattle.jvm_log.specs.declared.held.Entry.{Entry}
 use Rattle.jvm_log.specs.Asking.{Asking}
-use Rattle.jvm_log.specs.Giving.{Gives}
+use Rattle.jvm_log.specs.Giving.{Takes}
 use Rattle.jvm_log.specs.Hearing.{trimmed}
-use Rattle.jvm_log.specs.Known.{Known, waits}
+use Rattle.jvm_log.specs.Held.{Goes, waiting}
+use Rattle.jvm_log.specs.Known.{Known}
 use Rattle.jvm_log.specs.Living.{Living}
 use Rattle.jvm_log.specs.Lying.{Lying}
 use Rattle.jvm_log.specs.Reading.{said_in}
 
--- No loader, block or request is known, no name is in use, and nothing waits.
+-- No loader, block or request is known, no name is in use, no line is held back, and more may be known.
 pub record KnowsNothing (reports : Bool) (known : Known) : Type 0 where
   pub loaders : (address : ℕ) → known.loaders.loader_at address ≡ None
   pub owners : (arena : ℕ) → known.loaders.owner_at arena ≡ None
@@ -19,21 +21,30 @@ pub record KnowsNothing (reports : Bool) (known : Known) : Type 0 where
   pub blocks : (address : ℕ) → known.blocks.block_at address ≡ None
   pub answers : (thread : ℕ) → known.blocks.answer_of thread ≡ None
   pub requests : (thread : ℕ) → known.request_of thread ≡ None
-  pub waiting : waits known ≡ []
+  pub lines : known.held.entries.items ≡ []
+  pub first : known.held.first ≡ 0
+  pub closed : known.held.closed ≡ false
   pub asked : known.reports ≡ reports
 
--- What a line says becomes known, and gives the commands that wait from then on.
+-- Until the log is over what a line says becomes known, and lines come to those that are held back.
 pub record Learns (said : Said) (old new : Known) : Type 0 where
-  pub lines : Gives said.thread said.event old new.loaders.used (waits new)
+  pub more : old.held.closed ≡ false
+  pub lines : Takes said.thread said.event old new.loaders.used new.held
   pub requests : Asking said.thread said.event old new.request_of
   pub loaders : Living said.thread said.event old new.loaders
   pub blocks : Lying said.thread said.event old new.blocks
   pub asked : new.reports ≡ old.reports
 
--- The first commands that wait go out; all else stays known.
+-- The first lines go, and give these commands; all else stays known.
 pub record HandsOut (commands : List Command) (old new : Known) : Type 0 where
-  pub first : waits old ≡ commands ++ waits new
+  pub gone : List Entry
+  pub goes : Goes gone old.held new.held
+  pub gives : waiting gone ≡ commands
   pub rest : new ≡ record old { held = new.held }
+
+-- The log is over: nothing more will be known.
+abbrev pub Ends : Known → Known → Type 0
+Ends old new = new ≡ record old { held = record old.held { closed = true } }
 
 -- What lines of a log say, in their order, without those that say nothing.
 abbrev pub one_said : Option Said → List Said
@@ -51,3 +62,5 @@ pub data Follows (reports : Bool) : List Said → List Command → Known → Typ
       → Learns line old new → Follows reports (said ++ line ∷ []) out new
   gave : (said : List Said) (out commands : List Command) (old new : Known) → Follows reports said out old
       → HandsOut commands old new → Follows reports said (out ++ commands) new
+  ended : (said : List Said) (out : List Command) (old new : Known) → Follows reports said out old → Ends old new
+      → Follows reports said out new

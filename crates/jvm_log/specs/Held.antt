@@ -1,5 +1,7 @@
--- Lines that are held back, in their order: which commands are known among them.
-use Rattle.std.specs.Prelude.{◌≡◌, ◌≢◌, ◌≤◌, ◌<◌, ◌-◌, ℕ, Bool, List, [], ◌∷◌, ◌++◌, Option, Some, None, flat_map, slice_get, slice_set}
+-- Lines that are held back, in their order: where each stands, and which commands are known among them.
+use Rattle.std.specs.Prelude.{◌≡◌, ◌-◌, ◌+◌, ◌%◌, ◌^◌, ℕ, Bool, true, false, List, [], ◌∷◌, ◌++◌, Option, Some, None, flat_map, length, nat_le, nat_lt, slice_get, slice_set}
+use Rattle.std.specs.Prelude.{if◌then◌else◌}
+use Rattle.std.specs.List.{All}
 use Rattle.ms_base.specs.declared.kind.Kind.{Kind}
 use Rattle.ms_base.specs.declared.kind.Kind.TheVariants.{Standard}
 use Rattle.ms_base.specs.declared.step.Step.TheVariants.{New}
@@ -30,19 +32,53 @@ waiting entries = flat_map known_of entries
 abbrev pub name_acts_of : List Entry → List (ℕ × Bool)
 name_acts_of entries = flat_map name_acts (waiting entries)
 
--- A line is added at the end.
-abbrev pub AddsLine : Placed → Held → Held → Type 0
-AddsLine line old new = new.entries.items ≡ old.entries.items ++ Whole line ∷ []
+-- An entry waits for the answer to its request.
+abbrev pub is_asked : Option Entry → Bool
+is_asked (Some Asked) = true
+is_asked entry = false
 
--- A line takes the entry of that number while the entry waits for it, and comes at the end where the entry is
--- gone or waits no more.
-pub record PutsAt (number : ℕ) (line : Placed) (old new : Held) : Type 0 where
-  pub waits : old.first ≤ number → slice_get old.entries.items (number - old.first) ≡ Some Asked
-      → new.entries.items ≡ slice_set old.entries.items (number - old.first) (Whole line)
-  pub gone : number < old.first → AddsLine line old new
-  pub other : old.first ≤ number → slice_get old.entries.items (number - old.first) ≢ Some Asked → AddsLine line old new
+abbrev pub asks_at : ℕ → Held → Bool
+asks_at number held = if nat_le held.first number then is_asked (slice_get held.entries.items (number - held.first)) else false
 
--- A line is put where its request passed the pool, and at the end where it did not.
-abbrev pub PutsLine : Option ℕ → Placed → Held → Held → Type 0
-PutsLine None line old new = AddsLine line old new
-PutsLine (Some number) line old new = PutsAt number line old new
+-- The entry of that number becomes another where it waits for an answer; otherwise the entries are these.
+abbrev pub answered : ℕ → Entry → List Entry → Held → List Entry
+answered number entry otherwise held =
+    if asks_at number held then slice_set held.entries.items (number - held.first) entry else otherwise
+
+-- A line takes the entry of its request while that waits, and comes at the end where the entry is gone or waits no
+-- more, or the request has none.
+abbrev pub with_line : Option ℕ → Placed → Held → List Entry
+with_line None line held = held.entries.items ++ Whole line ∷ []
+with_line (Some number) line held = answered number (Whole line) (held.entries.items ++ Whole line ∷ []) held
+
+-- A request that is given up has no line: its entry stays, and gives none.
+abbrev pub without_line : Option ℕ → Held → List Entry
+without_line None held = held.entries.items
+without_line (Some number) held = answered number Void held.entries.items held
+
+-- More may be known of an entry later.
+abbrev pub is_open : Entry → Bool
+is_open (Born loader) = true
+is_open Asked = true
+is_open entry = false
+
+-- What stands for an entry of which nothing more will be known.
+abbrev pub settled : Entry → Entry
+settled (Born loader) = Whole (opening loader Standard)
+settled Asked = Void
+settled entry = entry
+
+abbrev pub settled_first : List Entry → List Entry
+settled_first [] = []
+settled_first (entry ∷ entries) = settled entry ∷ entries
+
+-- Where more than 100,000 lines are held back the first waits no longer.
+abbrev pub shortened : List Entry → List Entry
+shortened entries = if nat_lt 100000 (length entries) then settled_first entries else entries
+
+-- The first entries go, and the others keep their numbers. None goes of which more may be known.
+pub record Goes (gone : List Entry) (old new : Held) : Type 0 where
+  pub lines : old.entries.items ≡ gone ++ new.entries.items
+  pub number : new.first ≡ (old.first + length gone) % 2 ^ 64
+  pub closed : new.closed ≡ old.closed
+  pub known : old.closed ≡ false → All (λ entry. is_open entry ≡ false) gone

@@ -1,9 +1,24 @@
 -- What a machine has still to give, and how it uses the names of loaders.
 use Rattle.std.specs.Prelude.{◌≡◌, ℕ, Bool, List, ◌++◌}
 use Rattle.ms_trace.specs.declared.trace.Command.{Command}
+use Rattle.jvm_log.specs.declared.held.Entry.{Entry}
 use Rattle.jvm_log.specs.declared.machine.Machine.{Machine}
 use Rattle.jvm_log.specs.Held.{name_acts_of, waiting}
 use Rattle.jvm_log.specs.NameActs.{TakesFree}
+
+-- The lines that are held back.
+abbrev pub lines_in : Machine → List Entry
+lines_in machine = machine.held.entries.items
+
+-- What no line of the log changes: whether reports are asked for, the number of the first line that is held back, and
+-- whether more may be known.
+pub record Fixed : Type 0 where
+  pub reports : Bool
+  pub first : ℕ
+  pub closed : Bool
+
+abbrev pub fixed_in : Machine → Fixed
+fixed_in machine = record { reports = machine.reports; first = machine.held.first; closed = machine.held.closed }
 
 -- The commands that wait, as far as they are known.
 abbrev pub waiting_in : Machine → List Command

@@ -2,8 +2,8 @@
 //!
 //!     new 3 ?    alloc 1 7 20    ?    calloc 3 0 65      a line goes out only from the front,
 //!     ---------------------------------------------      and only once it is whole
-ghost use Rattle.std.specs.Prelude.{◌≡◌, ◌≢◌, ◌≤◌, ◌<◌, ◌-◌, ◌+◌, ◌%◌, ◌^◌, ◌++◌, ◌∷◌, [], true, length, IfOk, OnOk, IfSome, IfNone, Some, None, slice_set, slice_get, IsTrue, IsFalse, map};
-ghost use Rattle.jvm_log.specs.Held.{known_of, opening};
+ghost use Rattle.std.specs.Prelude.{◌≡◌, ◌≢◌, ◌≤◌, ◌<◌, ◌-◌, ◌+◌, ◌%◌, ◌^◌, ◌++◌, ◌∷◌, [], List, true, false, length, IfOk, OnOk, IfSome, IfNone, Some, None, slice_set, slice_get, IsTrue, IsFalse, map};
+ghost use Rattle.jvm_log.specs.Held.{is_open as more_of, known_of, opening, settled as settled_as};
 
 use crate::placed::Placed;
 use ms_base::{Kind, Step};
@@ -37,14 +37,17 @@ pub(crate) struct Held {
 impl Held {
     ghost use Rattle.ms_base.specs.declared.step.Step.TheVariants.{New};
     ghost use Rattle.ms_trace.specs.declared.trace.Command.TheVariants.{Step as Asks};
+    ghost use Rattle.jvm_log.specs.declared.held.Entry.{Entry as EntryOf};
     ghost use Rattle.jvm_log.specs.declared.held.Entry.TheVariants.{Whole, Born, Asked, Void};
-    ghost use Rattle.jvm_log.specs.Held.{PutsLine, waiting, name_acts_of};
+    ghost use Rattle.jvm_log.specs.Held.{Goes, asks_at, name_acts_of, settled_first, waiting, with_line, without_line};
     ghost use Rattle.jvm_log.specs.NameActs.{name_acts};
-    ghost use Rattle.jvm_log.specs.Giving.{plain};
+    ghost use Rattle.jvm_log.specs.Giving.{bare};
 
     /// Makes an empty list.
     pub(crate) fn new(alloc: Global) -> Held
-        ensures { result.entries.items ≡ [] }
+        ensures lines { result.entries.items ≡ [] }
+        ensures first { result.first ≡ 0 }
+        ensures closed { result.closed ≡ false }
     {
         Held {
             first: 0,
@@ -65,6 +68,7 @@ impl Held {
         ensures added { OnOk result (self.new.entries.items ≡ self.old.entries.items ++ entry ∷ []) }
         ensures number { IfOk result
             (λ number. number ≡ (self.old.first + length self.old.entries.items) % 2 ^ 64) }
+        ensures rest { self.new ≡ record self.old { entries = self.new.entries } }
     {
         let number = self.first.wrapping_add(self.entries.len() as u64);
         self.entries.push_back(entry)?;
@@ -73,7 +77,8 @@ impl Held {
 
     /// Adds a whole line.
     pub(crate) fn add(&mut self, line: Placed) -> Result<(), AllocError>
-        ensures { OnOk result (self.new.entries.items ≡ self.old.entries.items ++ Whole line ∷ []) }
+        ensures added { OnOk result (self.new.entries.items ≡ self.old.entries.items ++ Whole line ∷ []) }
+        ensures rest { self.new ≡ record self.old { entries = self.new.entries } }
     {
         self.entries.push_back(Entry::Whole(line))?;
         Ok(())
@@ -82,9 +87,10 @@ impl Held {
     /// Makes a request's line of that number whole. Adds the line where that number is gone, or there
     /// is none.
     pub(crate) fn put(&mut self, number: Option<u64>, line: Placed) -> Result<(), AllocError>
-        ensures in_place { OnOk result (PutsLine number line self.old self.new) }
+        ensures in_place { OnOk result (self.new.entries.items ≡ with_line number line self.old) }
         ensures names { OnOk result (name_acts line.command ≡ []
             → name_acts_of self.new.entries.items ≡ name_acts_of self.old.entries.items) }
+        ensures rest { self.new ≡ record self.old { entries = self.new.entries } }
     {
         match number {
             Some(number) => self.put_at(number, line),
@@ -94,9 +100,10 @@ impl Held {
 
     /// Makes a request's line of that number whole, or adds the line where that number is gone.
     fn put_at(&mut self, number: u64, line: Placed) -> Result<(), AllocError>
-        ensures in_place { OnOk result (PutsLine (Some number) line self.old self.new) }
+        ensures in_place { OnOk result (self.new.entries.items ≡ with_line (Some number) line self.old) }
         ensures names { OnOk result (name_acts line.command ≡ []
             → name_acts_of self.new.entries.items ≡ name_acts_of self.old.entries.items) }
+        ensures rest { self.new ≡ record self.old { entries = self.new.entries } }
     {
         if !self.is_asked(number) {
             return self.add(line);
@@ -112,14 +119,14 @@ impl Held {
     fn is_asked(&self, number: u64) -> bool
         ensures later { IsTrue result → self.now.first ≤ number }
         ensures asked { IsTrue result → slice_get self.now.entries.items (number - self.now.first) ≡ Some Asked }
-        ensures otherwise { IsFalse result → self.now.first ≤ number
-            → slice_get self.now.entries.items (number - self.now.first) ≢ Some Asked }
+        ensures exactly { result ≡ asks_at number self.now }
     {
         if number < self.first {
             return false;
         }
         match self.entries.get((number - self.first) as usize) {
-            Some(entry) => *entry == Entry::Asked,
+            Some(Entry::Asked) => true,
+            Some(Entry::Whole(_)) | Some(Entry::Born(_)) | Some(Entry::Void) => false,
             None => false,
         }
     }
@@ -127,7 +134,8 @@ impl Held {
     /// Gives the line of that number the loader's kind, where it opens one and is still held back.
     pub(crate) fn tell_kind(&mut self, number: u64, kind: Kind)
         ensures acts { name_acts_of self.new.entries.items ≡ name_acts_of self.old.entries.items }
-        ensures lines { map plain (waiting self.new.entries.items) ≡ map plain (waiting self.old.entries.items) }
+        ensures lines { map bare self.new.entries.items ≡ map bare self.old.entries.items }
+        ensures rest { self.new ≡ record self.old { entries = self.new.entries } }
     {
         if number >= self.first
             && let Some(entry) = self.entries.get_mut((number - self.first) as usize)
@@ -139,32 +147,27 @@ impl Held {
 
     /// Takes back a request's line of that number, where it isn't whole yet.
     pub(crate) fn cancel(&mut self, number: u64)
-        ensures { waiting self.new.entries.items ≡ waiting self.old.entries.items }
+        ensures lines { self.new.entries.items ≡ without_line (Some number) self.old }
+        ensures rest { self.new ≡ record self.old { entries = self.new.entries } }
     {
-        if number >= self.first
-            && let Some(entry) = self.entries.get_mut((number - self.first) as usize)
-            && let Entry::Asked = *entry
-        {
+        if !self.is_asked(number) {
+            return;
+        }
+        if let Some(entry) = self.entries.get_mut((number - self.first) as usize) {
             *entry = Entry::Void;
         }
     }
 
     /// Takes the first line, where it is whole, or nothing more will be known.
     pub(crate) fn next(&mut self) -> Option<Placed>
-        ensures first { IfSome result
-            (λ line. waiting self.old.entries.items ≡ line.command ∷ waiting self.new.entries.items) }
-        ensures none { IfNone result (waiting self.new.entries.items ≡ waiting self.old.entries.items) }
+        ensures first { IfSome result (λ line. (gone : List EntryOf) × Goes gone self.old self.new
+            × (waiting gone ≡ line.command ∷ [])) }
+        ensures none { IfNone result ((gone : List EntryOf) × Goes gone self.old self.new × (waiting gone ≡ [])) }
         ensures all { self.old.closed ≡ true → IfNone result (waiting self.new.entries.items ≡ []) }
         ensures closed { self.new.closed ≡ self.old.closed }
     {
         for _passed in 0..self.entries.len() {
-            let entry = *self.entries.front()?;
-            if !self.closed && is_open(entry) {
-                return None;
-            }
-            let _ = self.entries.pop_front();
-            self.first = self.first.wrapping_add(1);
-            let line = known(entry);
+            let line = known(self.pass()?);
             if line.is_some() {
                 return line;
             }
@@ -172,9 +175,25 @@ impl Held {
         None
     }
 
+    /// Takes the first entry, unless more may be known of it.
+    fn pass(&mut self) -> Option<Entry>
+        ensures goes { IfSome result (λ entry. Goes (entry ∷ []) self.old self.new) }
+        ensures stays { IfNone result (self.new ≡ self.old) }
+        ensures all { self.old.closed ≡ true → IfNone result (self.old.entries.items ≡ []) }
+    {
+        let entry = *self.entries.front()?;
+        if !self.closed && is_open(entry) {
+            return None;
+        }
+        let _ = self.entries.pop_front();
+        self.first = self.first.wrapping_add(1);
+        Some(entry)
+    }
+
     /// Gives up waiting for the first line.
     pub(crate) fn settle_first(&mut self)
-        ensures { waiting self.new.entries.items ≡ waiting self.old.entries.items }
+        ensures lines { self.new.entries.items ≡ settled_first self.old.entries.items }
+        ensures rest { self.new ≡ record self.old { entries = self.new.entries } }
     {
         if let Some(entry) = self.entries.front_mut() {
             *entry = settled(*entry);
@@ -183,8 +202,7 @@ impl Held {
 
     /// Gives up waiting for any line.
     pub(crate) fn close(&mut self)
-        ensures entries { self.new.entries ≡ self.old.entries }
-        ensures closed { self.new.closed ≡ true }
+        ensures { self.new ≡ record self.old { closed = true } }
     {
         self.closed = true;
     }
@@ -213,17 +231,22 @@ fn known(entry: Entry) -> Option<Placed>
 }
 
 /// Checks whether more may be known of an entry later.
-fn is_open(entry: Entry) -> bool {
-    matches!(entry, Entry::Born(_) | Entry::Asked)
+fn is_open(entry: Entry) -> bool
+    ensures { result ≡ more_of entry }
+{
+    match entry {
+        Entry::Born(_) | Entry::Asked => true,
+        Entry::Whole(_) | Entry::Void => false,
+    }
 }
 
 /// Returns what stands for an entry of which nothing more will be known.
 fn settled(entry: Entry) -> Entry
-    ensures { known_of result ≡ known_of entry }
+    ensures { result ≡ settled_as entry }
 {
     match entry {
         Entry::Born(loader) => Entry::Whole(opening(loader, Kind::Standard)),
         Entry::Asked => Entry::Void,
-        known => known,
+        Entry::Whole(_) | Entry::Void => entry,
     }
 }

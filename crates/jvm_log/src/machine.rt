@@ -9,12 +9,13 @@ ghost use Rattle.std.specs.Prelude.{◌≡◌, ◌∷◌, [], ℕ, true, false, 
 ghost use Rattle.std.specs.Map.{lookup, update};
 ghost use Rattle.std.specs.Option.{option_map};
 ghost use Rattle.jvm_log.specs.Asking.{Asking, asked, passed};
-ghost use Rattle.jvm_log.specs.Following.{HandsOut, KnowsNothing};
-ghost use Rattle.jvm_log.specs.Giving.{Adds, Answers, Bears, Gives, Opens, freeing, given, plain, reporting, unloading};
+ghost use Rattle.jvm_log.specs.Following.{Ends, HandsOut, KnowsNothing};
+ghost use Rattle.jvm_log.specs.Giving.{Adds, Answers, Bears, Gives, GivesUp, Opens, Passes, Takes, bare, freeing, given, reporting, unloading};
+ghost use Rattle.jvm_log.specs.Held.{shortened, without_line};
 ghost use Rattle.jvm_log.specs.Known.{blocks_in, known_in, loaders_in, owner_of, request_of, waits};
 ghost use Rattle.jvm_log.specs.Living.{Comes, Counts, Dies, IsBorn, Living, Same};
 ghost use Rattle.jvm_log.specs.Lying.{Clears, IsTaken, Lays, Lying, Tells, answer_as, laid_in};
-ghost use Rattle.jvm_log.specs.Waits.{UsesNames, acts_in, is_closed, names_in, waiting_in};
+ghost use Rattle.jvm_log.specs.Waits.{UsesNames, acts_in, fixed_in, is_closed, lines_in, names_in, waiting_in};
 
 use crate::event::{Event, Said};
 use crate::held::{Entry, Held};
@@ -100,8 +101,8 @@ impl Machine {
 
     /// Takes in what a line says. What is wrong with it is no error.
     pub fn take_in(&mut self, said: Said) -> Result<Option<Trouble>, AllocError>
-        ensures lines { OnOk result (Gives said.thread said.event (known_in self.old) (names_in self.new)
-            (waiting_in self.new)) }
+        ensures lines { OnOk result (Takes said.thread said.event (known_in self.old) (names_in self.new)
+            (known_in self.new).held) }
         ensures requests { OnOk result (Asking said.thread said.event (known_in self.old) (request_of self.new)) }
         ensures loaders { OnOk result (Living said.thread said.event (known_in self.old) (loaders_in self.new)) }
         ensures blocks { OnOk result (Lying said.thread said.event (known_in self.old) (blocks_in self.new)) }
@@ -117,7 +118,6 @@ impl Machine {
     /// Takes in that the log has begun, and returns what the first event of the metaspace shows to
     /// be wrong.
     fn begin(&mut self, event: Event) -> Option<Trouble>
-        ensures no_line { waiting_in self.new ≡ waiting_in self.old }
         ensures names { names_in self.new ≡ names_in self.old }
         ensures rest { self.new ≡ record self.old { began = self.new.began } }
     {
@@ -133,9 +133,10 @@ impl Machine {
 
     /// Gives up waiting for the first line, where too many are held back.
     fn shorten(&mut self)
-        ensures no_line { waiting_in self.new ≡ waiting_in self.old }
+        ensures lines { lines_in self.new ≡ shortened (lines_in self.old) }
         ensures names { names_in self.new ≡ names_in self.old }
         ensures rest { self.new ≡ record self.old { held = self.new.held } }
+        ensures fixed { fixed_in self.new ≡ fixed_in self.old }
     {
         if self.held.len() > MOST_HELD {
             self.held.settle_first();
@@ -143,15 +144,15 @@ impl Machine {
     }
 
     /// Does what an event asks.
-    #[tactic(auto, using(crate::proofs::NameLemmas::uses_quiet, crate::proofs::NameLemmas::uses_same, crate::proofs::GivingLemmas::adds_none, crate::proofs::GivingLemmas::adds_quiet, crate::proofs::KnownLemmas::asks_none, crate::proofs::KnownLemmas::same_is, crate::proofs::KnownLemmas::keeps_is))]
+    #[tactic(auto, using(crate::proofs::NameLemmas::uses_passing, crate::proofs::NameLemmas::uses_quiet, crate::proofs::NameLemmas::uses_same, crate::proofs::GivingLemmas::adds_none, crate::proofs::GivingLemmas::adds_quiet, crate::proofs::KnownLemmas::asks_none, crate::proofs::KnownLemmas::same_is, crate::proofs::KnownLemmas::keeps_is))]
     fn heed(&mut self, said: Said) -> Result<Option<Trouble>, AllocError>
         ensures lines { OnOk result (Gives said.thread said.event (known_in self.old) (names_in self.new)
-            (waiting_in self.new)) }
+            (lines_in self.new)) }
         ensures requests { OnOk result (Asking said.thread said.event (known_in self.old) (request_of self.new)) }
         ensures loaders { OnOk result (Living said.thread said.event (known_in self.old) (loaders_in self.new)) }
         ensures blocks { OnOk result (Lying said.thread said.event (known_in self.old) (blocks_in self.new)) }
         ensures names { OnOk result (UsesNames self.old self.new) }
-        ensures reports { self.new.reports ≡ self.old.reports }
+        ensures fixed { fixed_in self.new ≡ fixed_in self.old }
     {
         let thread = said.thread;
         match said.event {
@@ -189,12 +190,12 @@ impl Machine {
         arena: u64,
         class_arena: u64,
     ) -> Result<Option<Trouble>, AllocError>
-        ensures lines { OnOk result (Bears loader (known_in self.old) (names_in self.new) (waiting_in self.new)) }
+        ensures lines { OnOk result (Bears loader (known_in self.old) (names_in self.new) (lines_in self.new)) }
         ensures loaders { OnOk result (IsBorn loader arena class_arena (loaders_in self.old) (loaders_in self.new)) }
         ensures requests { self.new.requests ≡ self.old.requests }
         ensures blocks { blocks_in self.new ≡ blocks_in self.old }
         ensures names { OnOk result (UsesNames self.old self.new) }
-        ensures reports { self.new.reports ≡ self.old.reports }
+        ensures fixed { fixed_in self.new ≡ fixed_in self.old }
     {
         if !self.loaders.contains_key(&loader) {
             return self.open(loader, arena, class_arena);
@@ -212,12 +213,12 @@ impl Machine {
         arena: u64,
         class_arena: u64,
     ) -> Result<Option<Trouble>, AllocError>
-        ensures lines { OnOk result (Opens (names_in self.new) (waiting_in self.old) (waiting_in self.new)) }
+        ensures lines { OnOk result (Opens (names_in self.new) (lines_in self.old) (lines_in self.new)) }
         ensures loaders { OnOk result (Comes loader arena class_arena (loaders_in self.old) (loaders_in self.new)) }
         ensures requests { self.new.requests ≡ self.old.requests }
         ensures blocks { blocks_in self.new ≡ blocks_in self.old }
         ensures names { OnOk result (UsesNames self.old self.new) }
-        ensures reports { self.new.reports ≡ self.old.reports }
+        ensures fixed { fixed_in self.new ≡ fixed_in self.old }
     {
         let Some(name) = self.names.take() else {
             return Ok(Some(Trouble::NoName));
@@ -248,11 +249,12 @@ impl Machine {
     /// Sets the kind of a loader that has none.
     fn set_kind(&mut self, loader: u64, kind: Kind)
         ensures acts { acts_in self.new ≡ acts_in self.old }
-        ensures lines { map plain (waiting_in self.new) ≡ map plain (waiting_in self.old) }
+        ensures lines { map bare (lines_in self.new) ≡ map bare (lines_in self.old) }
         ensures loaders { (address : ℕ)
             → (loaders_in self.new).loader_at address ≡ (loaders_in self.old).loader_at address }
         ensures rest { self.new ≡ record self.old { loaders = self.new.loaders; held = self.new.held } }
         ensures names { names_in self.new ≡ names_in self.old }
+        ensures fixed { fixed_in self.new ≡ fixed_in self.old }
     {
         let Some(known) = self.loaders.get_mut(&loader) else {
             return;
@@ -269,12 +271,12 @@ impl Machine {
     #[tactic(auto, using(crate::proofs::NameLemmas::uses_quiet, crate::proofs::NameLemmas::uses_same))]
     fn bury(&mut self, loader: u64) -> Result<Option<Trouble>, AllocError>
         ensures lines { OnOk result (Adds (unloading ((loaders_in self.old).loader_at loader))
-            (waiting_in self.old) (waiting_in self.new)) }
+            (lines_in self.old) (lines_in self.new)) }
         ensures loaders { OnOk result (Dies loader (loaders_in self.old) (loaders_in self.new)) }
         ensures requests { self.new.requests ≡ self.old.requests }
         ensures blocks { blocks_in self.new ≡ blocks_in self.old }
         ensures names { OnOk result (UsesNames self.old self.new) }
-        ensures reports { self.new.reports ≡ self.old.reports }
+        ensures fixed { fixed_in self.new ≡ fixed_in self.old }
     {
         let untold = self.untold(loader);
         self.set_kind(loader, Kind::Standard);
@@ -302,9 +304,9 @@ impl Machine {
         ensures requests { OnOk result ((q : ℕ) → request_of self.new q ≡ update nat_eq (request_of self.old) thread
             (asked ((loaders_in self.old).owner_at arena) arena words) q) }
         ensures loaders { loaders_in self.new ≡ loaders_in self.old }
-        ensures no_line { waiting_in self.new ≡ waiting_in self.old }
+        ensures lines { OnOk result (GivesUp thread (known_in self.old) (lines_in self.new)) }
         ensures names { names_in self.new ≡ names_in self.old }
-        ensures reports { self.new.reports ≡ self.old.reports }
+        ensures fixed { fixed_in self.new ≡ fixed_in self.old }
     {
         self.asked = true;
         let trouble = self.forget(thread);
@@ -326,8 +328,9 @@ impl Machine {
     fn forget(&mut self, thread: u64) -> Option<Trouble>
         ensures requests { (q : ℕ) → request_of self.new q ≡ update nat_eq (request_of self.old) thread None q }
         ensures rest { self.new ≡ record self.old { requests = self.new.requests; held = self.new.held } }
-        ensures no_line { waiting_in self.new ≡ waiting_in self.old }
+        ensures lines { GivesUp thread (known_in self.old) (lines_in self.new) }
         ensures names { names_in self.new ≡ names_in self.old }
+        ensures fixed { fixed_in self.new ≡ fixed_in self.old }
     {
         let request = self.requests.remove(&thread)?;
         self.abandon(request);
@@ -337,8 +340,9 @@ impl Machine {
     /// Makes nothing of a request.
     fn abandon(&mut self, request: Request)
         ensures rest { self.new ≡ record self.old { held = self.new.held } }
-        ensures no_line { waiting_in self.new ≡ waiting_in self.old }
+        ensures lines { lines_in self.new ≡ without_line request.line (known_in self.old).held }
         ensures names { names_in self.new ≡ names_in self.old }
+        ensures fixed { fixed_in self.new ≡ fixed_in self.old }
     {
         if let Some(line) = request.line {
             self.held.cancel(line);
@@ -351,9 +355,9 @@ impl Machine {
         ensures loaders { loaders_in self.new ≡ loaders_in self.old }
         ensures requests { OnOk result ((q : ℕ)
             → request_of self.new q ≡ update nat_eq (request_of self.old) thread None q) }
-        ensures no_line { waiting_in self.new ≡ waiting_in self.old }
+        ensures lines { OnOk result (GivesUp thread (known_in self.old) (lines_in self.new)) }
         ensures names { names_in self.new ≡ names_in self.old }
-        ensures reports { self.new.reports ≡ self.old.reports }
+        ensures fixed { fixed_in self.new ≡ fixed_in self.old }
     {
         Ok(match self.forget(thread) {
             Some(_) => None,
@@ -367,9 +371,9 @@ impl Machine {
         ensures loaders { loaders_in self.new ≡ loaders_in self.old }
         ensures requests { OnOk result ((q : ℕ) → request_of self.new q ≡ update nat_eq (request_of self.old) thread
             (option_map (passed self.old.held) (request_of self.old thread)) q) }
-        ensures no_line { OnOk result (waiting_in self.new ≡ waiting_in self.old) }
+        ensures lines { OnOk result (Passes thread (known_in self.old) (lines_in self.new)) }
         ensures names { names_in self.new ≡ names_in self.old }
-        ensures reports { self.new.reports ≡ self.old.reports }
+        ensures fixed { fixed_in self.new ≡ fixed_in self.old }
     {
         if let Some(request) = self.requests.get_mut(&thread)
             && request.line.is_none()
@@ -387,12 +391,12 @@ impl Machine {
         level: u64,
     ) -> Result<Option<Trouble>, AllocError>
         ensures loaders { Same (loaders_in self.old) (loaders_in self.new) }
-        ensures lines { map plain (waiting_in self.new) ≡ map plain (waiting_in self.old) }
+        ensures lines { map bare (lines_in self.new) ≡ map bare (lines_in self.old) }
         ensures requests { self.new.requests ≡ self.old.requests }
         ensures blocks { blocks_in self.new ≡ blocks_in self.old }
         ensures acts { acts_in self.new ≡ acts_in self.old }
         ensures names { names_in self.new ≡ names_in self.old }
-        ensures reports { self.new.reports ≡ self.old.reports }
+        ensures fixed { fixed_in self.new ≡ fixed_in self.old }
     {
         if let Some(request) = self.requests.get(&thread)
             && let Some(loader) = self.arenas.get(&request.arena)
@@ -412,7 +416,7 @@ impl Machine {
         space: Space,
         address: Option<u64>,
     ) -> Result<Option<Trouble>, AllocError>
-        ensures lines { OnOk result (Answers thread arena space (known_in self.old) (waiting_in self.new)) }
+        ensures lines { OnOk result (Answers thread arena space (known_in self.old) (lines_in self.new)) }
         ensures loaders { OnOk result (Counts arena (given thread arena space (known_in self.old))
             (loaders_in self.old) (loaders_in self.new)) }
         ensures blocks { OnOk result (Lays thread arena address (given thread arena space (known_in self.old))
@@ -421,7 +425,7 @@ impl Machine {
             → request_of self.new q ≡ update nat_eq (request_of self.old) thread None q) }
         ensures acts { OnOk result (acts_in self.new ≡ acts_in self.old) }
         ensures names { names_in self.new ≡ names_in self.old }
-        ensures reports { self.new.reports ≡ self.old.reports }
+        ensures fixed { fixed_in self.new ≡ fixed_in self.old }
     {
         let Some(request) = self.requests.remove(&thread) else {
             return Ok(Some(Trouble::Unasked));
@@ -452,9 +456,9 @@ impl Machine {
         ensures loaders { loaders_in self.new ≡ loaders_in self.old }
         ensures requests { self.new.requests ≡ self.old.requests }
         ensures blocks { OnOk result (Tells thread address (blocks_in self.old) (blocks_in self.new)) }
-        ensures no_line { waiting_in self.new ≡ waiting_in self.old }
+        ensures lines { lines_in self.new ≡ lines_in self.old }
         ensures names { names_in self.new ≡ names_in self.old }
-        ensures reports { self.new.reports ≡ self.old.reports }
+        ensures fixed { fixed_in self.new ≡ fixed_in self.old }
     {
         if let Some(Answer::FromFreeBlocks(block)) = self.take_answer(thread, address) {
             self.blocks.insert(address, block)?;
@@ -494,14 +498,14 @@ impl Machine {
     /// Frees an arena's block at that address.
     fn free(&mut self, arena: u64, address: u64) -> Result<Option<Trouble>, AllocError>
         ensures lines { OnOk result (Adds (freeing (owner_of (loaders_in self.old) arena)
-            ((blocks_in self.old).block_at address)) (waiting_in self.old) (waiting_in self.new)) }
+            ((blocks_in self.old).block_at address)) (lines_in self.old) (lines_in self.new)) }
         ensures loaders { loaders_in self.new ≡ loaders_in self.old }
         ensures requests { self.new.requests ≡ self.old.requests }
         ensures blocks { OnOk result (Clears (owner_of (loaders_in self.old) arena) address
             (blocks_in self.old) (blocks_in self.new)) }
         ensures acts { OnOk result (acts_in self.new ≡ acts_in self.old) }
         ensures names { names_in self.new ≡ names_in self.old }
-        ensures reports { self.new.reports ≡ self.old.reports }
+        ensures fixed { fixed_in self.new ≡ fixed_in self.old }
     {
         let Some(loader) = self.arenas.get(&arena) else {
             return Ok(Some(Trouble::UnknownArena));
@@ -522,12 +526,12 @@ impl Machine {
     /// Notes the kind of the loader whose class has its block at that address.
     fn add_class(&mut self, address: u64, kind: Kind) -> Result<Option<Trouble>, AllocError>
         ensures loaders { Same (loaders_in self.old) (loaders_in self.new) }
-        ensures lines { map plain (waiting_in self.new) ≡ map plain (waiting_in self.old) }
+        ensures lines { map bare (lines_in self.new) ≡ map bare (lines_in self.old) }
         ensures requests { self.new.requests ≡ self.old.requests }
         ensures blocks { blocks_in self.new ≡ blocks_in self.old }
         ensures acts { acts_in self.new ≡ acts_in self.old }
         ensures names { names_in self.new ≡ names_in self.old }
-        ensures reports { self.new.reports ≡ self.old.reports }
+        ensures fixed { fixed_in self.new ≡ fixed_in self.old }
     {
         if let Some(block) = self.blocks.get(&address) {
             let loader = block.loader;
@@ -539,12 +543,12 @@ impl Machine {
     /// Adds a report after a collection, where those are asked for.
     fn collect(&mut self) -> Result<Option<Trouble>, AllocError>
         ensures loaders { loaders_in self.new ≡ loaders_in self.old }
-        ensures lines { OnOk result (Adds (reporting self.old.reports) (waiting_in self.old) (waiting_in self.new)) }
+        ensures lines { OnOk result (Adds (reporting self.old.reports) (lines_in self.old) (lines_in self.new)) }
         ensures requests { self.new.requests ≡ self.old.requests }
         ensures blocks { blocks_in self.new ≡ blocks_in self.old }
         ensures acts { OnOk result (acts_in self.new ≡ acts_in self.old) }
         ensures names { names_in self.new ≡ names_in self.old }
-        ensures reports { self.new.reports ≡ self.old.reports }
+        ensures fixed { fixed_in self.new ≡ fixed_in self.old }
     {
         if self.reports {
             self.held.add(Placed::from(Command::Report))?;
@@ -556,7 +560,7 @@ impl Machine {
     /// shows to be wrong.
     pub fn finish(&mut self) -> Option<Trouble>
         ensures closed { is_closed self.new ≡ true }
-        ensures keeps { HandsOut [] (known_in self.old) (known_in self.new) }
+        ensures keeps { Ends (known_in self.old) (known_in self.new) }
     {
         self.held.close();
         if !self.requests.is_empty() {

@@ -1,5 +1,5 @@
 -- A log that is heard to its end is of no other release, and takes a conversion to its end. Used by `convert`.
-use Rattle.std.proofs.Common.{ℕ, ◌+◌, List, [], ◌∷◌, Option, Some, None, Result, Ok, Err, ◌∙◌}
+use Rattle.std.proofs.Common.{◌≡◌, refl, ℕ, ◌+◌, ◌++◌, List, [], ◌∷◌, Option, Some, None, Result, Ok, Err, ◌∙◌}
 use Rattle.std.specs.List.{AllByRecursion}
 use Rattle.std.specs.Prelude.{IfSome, OnOk}
 use Rattle.std.proofs.Common.{subst, sym}
@@ -11,7 +11,7 @@ use Rattle.jvm_log.specs.Reading.{said_in}
 use Rattle.metalog.specs.declared.conversion.Conversion.{Conversion}
 use Rattle.metalog.specs.declared.options.Options.{Options}
 use Rattle.metalog.specs.Trace.{Converts, WritesTrace}
-use Rattle.metalog.specs.UnderWay.{Begins, GoesOn, Hears, IsUnderWay}
+use Rattle.metalog.specs.UnderWay.{Begins, GoesOnHearing, Hears, IsUnderWay}
 use Rattle.metalog.specs.Release.{IsNoOther, LineIsOfJdk17, LogIsOfJdk17}
 use Rattle.metalog.proofs.UnderWayLemmas.{goes_nowhere, goes_on}
 
@@ -19,18 +19,26 @@ use Rattle.metalog.proofs.UnderWayLemmas.{goes_nowhere, goes_on}
 abbrev heard : {E : Type 0} → Conversion E × Option (List ℕ) → ℕ → List ℕ → Said → Conversion E × Option (List ℕ) → Type 0
 heard old number line said new = Hears old said new
 
+stays_there : {E : Type 0} (old new : Conversion E × Option (List ℕ)) → new ≡ old → GoesOnHearing [] old new
+stays_there old new same = subst (GoesOnHearing [] old) (sym same) (refl, λ _. goes_nowhere old)
+
+hears_both : {E : Type 0} (first second : List Said) (old mid new : Conversion E × Option (List ℕ)) → GoesOnHearing first old mid
+    → GoesOnHearing second mid new → GoesOnHearing (first ++ second) old new
+hears_both first second old mid new (one, hears) (other, then) =
+    (other ∙ one, λ more. goes_on first second old mid new (hears more) (then (one ∙ more)))
+
 line_is : {E : Type 0} (old new : Conversion E × Option (List ℕ)) (number : ℕ) (line : List ℕ) (said : Option Said)
-    → HearsLine heard old number line said new → IsNoOther said × GoesOn (one_said said) old new
-line_is old new number line None same = (tt, subst (GoesOn [] old) (sym same) (goes_nowhere old))
+    → HearsLine heard old number line said new → IsNoOther said × GoesOnHearing (one_said said) old new
+line_is old new number line None same = (tt, stays_there old new same)
 line_is old new number line (Some said) hears = hears
 
 lines_are : {E : Type 0} (old new : Conversion E × Option (List ℕ)) (number : ℕ) (lines : List (List ℕ))
-    → HearsLines heard old number lines new → AllByRecursion LineIsOfJdk17 lines × GoesOn (said_by lines) old new
-lines_are old new number [] same = (tt, subst (GoesOn [] old) (sym same) (goes_nowhere old))
+    → HearsLines heard old number lines new → AllByRecursion LineIsOfJdk17 lines × GoesOnHearing (said_by lines) old new
+lines_are old new number [] same = (tt, stays_there old new same)
 lines_are old new number (line ∷ lines) (mid, first, rest) =
     let here = line_is old mid number (trimmed line) (said_in (trimmed line)) first in
     let then = lines_are mid new (number + 1) lines rest in
-    ((here.0, then.0), goes_on (one_said (said_in (trimmed line))) (said_by lines) old mid new here.1 then.1)
+    ((here.0, then.0), hears_both (one_said (said_in (trimmed line))) (said_by lines) old mid new here.1 then.1)
 
 known_is : (text : Option (List ℕ)) (lines : List (List ℕ)) → IfSome text (λ bytes. AreLines bytes lines)
     → AllByRecursion LineIsOfJdk17 lines → IfSome text LogIsOfJdk17
@@ -47,7 +55,7 @@ pub converts : {E : Type 0} (options : Options) (old new : Conversion E) (log st
     → ((start : Option (List ℕ)) (said : List Said) → IsUnderWay start said (new, bytes) → WritesTrace new.options said start after)
     → Converts options log start after
 converts options old new log start bytes after begins (lines, are, hears) writes =
-    let goes = (lines_are (old, start) (new, bytes) 1 lines hears).1 in (
+    let goes = (lines_are (old, start) (new, bytes) 1 lines hears).1.1 begins.closed in (
       lines,
       are,
       subst (λ (its : Options). WritesTrace its (said_by lines) start after) (goes.options ∙ begins.options_are)

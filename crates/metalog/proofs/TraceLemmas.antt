@@ -28,6 +28,10 @@ pub ok_map : {T E : Type 0} (result : Result T E) (P Q : Type 0) → (P → Q) �
 ok_map (Ok value) P Q follows holds = follows holds
 ok_map (Err error) P Q follows holds = tt
 
+pub ok_both : {T E : Type 0} (result : Result T E) (P Q : Type 0) → OnOk result P → OnOk result Q → OnOk result (P × Q)
+ok_both (Ok value) P Q one other = (one, other)
+ok_both (Err error) P Q one other = tt
+
 -- All of one list and of another.
 both_all : {A : Type 0} (P : A → Type 0) (xs ys : List A) → AllByRecursion P xs → AllByRecursion P ys → AllByRecursion P (xs ++ ys)
 both_all P [] ys first second = second

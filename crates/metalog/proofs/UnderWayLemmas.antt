@@ -6,13 +6,16 @@ use Rattle.std.specs.Option.{is_some}
 use Rattle.std.proofs.lemmas.Grind.{flat_map-append}
 use Rattle.ms_trace.specs.declared.trace.Command.{Command}
 use Rattle.jvm_log.specs.declared.event.Said.{Said}
+use Rattle.jvm_log.specs.declared.held.Entry.{Entry}
 use Rattle.jvm_log.specs.declared.machine.Machine.{Machine}
 use Rattle.jvm_log.specs.declared.placed.Placed.{Placed}
-use Rattle.jvm_log.specs.Following.{Follows, HandsOut, KnowsNothing, Learns}
-use Rattle.jvm_log.specs.Following.Follows.{nothing, heard, gave}
+use Rattle.jvm_log.specs.Following.{Ends, Follows, HandsOut, KnowsNothing, Learns}
+use Rattle.jvm_log.specs.Following.Follows.{nothing, heard, gave, ended}
+use Rattle.jvm_log.specs.Held.{waiting}
 use Rattle.jvm_log.specs.Known.{Known, known_in, waits}
 use Rattle.jvm_log.specs.NameActs.{TakesFree, name_acts}
 use Rattle.jvm_log.specs.Waits.{UsesNames, names_in, waiting_in}
+use Rattle.jvm_log.proofs.FollowingLemmas.{gives_first}
 use Rattle.jvm_log.proofs.NameLemmas.{takes-append}
 use Rattle.metalog.specs.Trace.{OpensFree, WritesLines, asks_reports, commands_of}
 use Rattle.metalog.specs.UnderWay.{GoesOn, HandsOn, HasCome, IsUnderWay}
@@ -61,7 +64,7 @@ begins start conversion knows kept text =
           (nothing known knows);
       opens =
           subst (λ (lines : List Placed). OpensFree (commands_of lines ++ waits known) known.loaders.used) (sym kept)
-          (subst (λ (waiting : List Command). OpensFree waiting known.loaders.used) (sym knows.waiting)
+          (subst (λ (lines : List Entry). OpensFree (waiting lines) known.loaders.used) (sym knows.lines)
           (known.loaders.used, knows.names, refl));
     }
 
@@ -125,7 +128,7 @@ hands_first start bytes said old new state hands come =
           (gave said out [] old new come.follows hands);
       opens =
           subst (λ (names : List Bool). OpensFree (out ++ waits new) names) used
-          (subst (λ (waiting : List Command). OpensFree (out ++ waiting) old.loaders.used) hands.first come.opens);
+          (subst (λ (waiting : List Command). OpensFree (out ++ waiting) old.loaders.used) (gives_first [] old new hands) come.opens);
     }
 
 -- Nothing new.
@@ -137,6 +140,28 @@ stays old new bytes hands options kept text = record {
       subst (λ (s : List Said). IsUnderWay start s (new, bytes)) (sym (append-nil said))
       (same_lines start bytes said (known_in new.machine) old new options kept text
       (hands_first start bytes said (known_in old.machine) (known_in new.machine) old hands come));
+}
+
+-- The log is over: nothing new, and nothing more.
+pub is_over : {E : Type 0} (old new : Conversion E) (bytes : Option (List ℕ)) → Ends (known_in old.machine) (known_in new.machine)
+    → new.options ≡ old.options → new.kept ≡ old.kept → new.text ≡ old.text → GoesOn [] (old, bytes) (new, bytes)
+is_over {E} old new bytes ends options kept text = record {
+  options = options;
+  comes = λ start said come.
+      let known : Known = known_in old.machine in
+      let out : List Command = come.commands ++ commands_of old.kept.items in
+      let over : Known = record known { held = record known.held { closed = true } } in
+      let there : HasCome start said over (old, bytes) = record {
+        commands = come.commands;
+        lines = come.lines;
+        alone = come.alone;
+        apart = come.apart;
+        follows = ended said out known over come.follows refl;
+        opens = come.opens;
+      } in
+      subst (λ (s : List Said). IsUnderWay start s (new, bytes)) (sym (append-nil said))
+      (same_lines start bytes said (known_in new.machine) old new options kept text
+      (subst (λ (its : Known). HasCome start said its (old, bytes)) (sym ends) there));
 }
 
 -- One state after another.
@@ -186,7 +211,7 @@ opens_then : (out : List Command) (command : Command) (old new : Known) → Hand
 opens_then out command old new hands opens =
     subst (λ (commands : List Command). OpensFree commands new.loaders.used) (sym (append_assoc out (command ∷ []) (waits new)))
     (subst (λ (names : List Bool). OpensFree (out ++ command ∷ waits new) names) (names_stay (command ∷ []) old new hands)
-    (subst (λ (waiting : List Command). OpensFree (out ++ waiting) old.loaders.used) hands.first opens))
+    (subst (λ (waiting : List Command). OpensFree (out ++ waiting) old.loaders.used) (gives_first (command ∷ []) old new hands) opens))
 
 -- Its line goes out, or into the text.
 pub hands_out : {E : Type 0} (old mid : Conversion E) (text : Output) (bytes after : Option (List ℕ)) (command : Command)

@@ -1,10 +1,11 @@
 -- How far a conversion has come, with the bytes that its output holds.
-use Rattle.std.specs.Prelude.{◌≡◌, ℕ, Bool, true, List, [], ◌∷◌, ◌++◌, Option, None}
+use Rattle.std.specs.Prelude.{◌≡◌, ℕ, Bool, true, false, List, [], ◌∷◌, ◌++◌, Option, None}
 use Rattle.std.specs.Option.{is_some}
 use Rattle.ms_trace.specs.declared.trace.Command.{Command}
 use Rattle.jvm_log.specs.declared.event.Said.{Said}
 use Rattle.jvm_log.specs.Following.{Follows, HandsOut}
 use Rattle.jvm_log.specs.Known.{Known, known_in, waits}
+use Rattle.jvm_log.specs.Waits.{is_closed}
 use Rattle.metalog.specs.Release.{IsOfJdk17}
 use Rattle.metalog.specs.Trace.{AreGiven, OpensFree, WritesLines, asks_reports, commands_of}
 use Rattle.metalog.specs.declared.conversion.Conversion.{Conversion}
@@ -39,11 +40,17 @@ pub record HandsOn {E : Type 0} (command : Command) (old new : Conversion E × O
 -- With these options nothing was heard, on whatever output.
 pub record Begins {E : Type 0} (options : Options) (conversion : Conversion E) : Type 0 where
   pub options_are : conversion.options ≡ options
+  pub closed : is_closed conversion.machine ≡ false
   pub comes : (start : Option (List ℕ)) → IsUnderWay start [] (conversion, start)
+
+-- More is heard only until the log is over.
+abbrev pub GoesOnHearing : {E : Type 0} → List Said → Conversion E × Option (List ℕ) → Conversion E × Option (List ℕ) → Type 0
+GoesOnHearing more old new =
+    (is_closed new.0.machine ≡ is_closed old.0.machine) × (is_closed old.0.machine ≡ false → GoesOn more old new)
 
 -- A line is heard: it shows no other release, and the trace goes on.
 abbrev pub Hears : {E : Type 0} → Conversion E × Option (List ℕ) → Said → Conversion E × Option (List ℕ) → Type 0
-Hears old said new = IsOfJdk17 said × GoesOn (said ∷ []) old new
+Hears old said new = IsOfJdk17 said × GoesOnHearing (said ∷ []) old new
 
 -- All that these lines give has come, and then some more, but for the text that is kept.
 pub record HasEnded (options : Options) (said : List Said) (last : List Command) (start bytes : Option (List ℕ)) (text : List ℕ) : Type 0 where

@@ -112,6 +112,7 @@ impl<'a, E: Write> Conversion<'a, E> {
     fn hand_on<W: Write>(&mut self, output: &mut W) -> Result<(), Stop>
         ensures comes { OnOk result (GoesOn [] (self.old, W.contents output.old) (self.new, W.contents output.new)) }
         ensures all { OnOk result (is_closed self.old.machine ≡ true → waits (known_in self.new.machine) ≡ []) }
+        ensures closed { OnOk result (is_closed self.new.machine ≡ is_closed self.old.machine) }
     {
         for _given in 0..self.machine.held_back() {
             let Some(line) = self.machine.next_line() else {

@@ -9,9 +9,9 @@ use Rattle.jvm_log.proofs.machine.Machine.collect.Goals as goal
 pub returns-in_ok-add-clause-lines : goal.returns-in_ok-add-clause-lines
 returns-in_ok-add-clause-lines c =
     adds_whole c.args.self.now.held.entries.items c.add.new.self.entries.items c.from.result Report
-    (reporting c.args.self.now.reports) c.in_ok-add.ensures c.from.ensures (ap reporting c.if-self.true)
+    (reporting c.args.self.now.reports) c.in_ok-add.ensures.added c.from.ensures (ap reporting c.if-self.true)
 
 pub returns-in_ok-add-clause-acts : goal.returns-in_ok-add-clause-acts
 returns-in_ok-add-clause-acts c =
-    acts_quiet c.args.self.now.held.entries.items c.add.new.self.entries.items c.from.result Report c.in_ok-add.ensures
+    acts_quiet c.args.self.now.held.entries.items c.add.new.self.entries.items c.from.result Report c.in_ok-add.ensures.added
     c.from.ensures refl

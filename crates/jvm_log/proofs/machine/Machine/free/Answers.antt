@@ -19,11 +19,11 @@ returns-clause-lines c =
     (ap (option_map life_of) (sym c.in-Some-get.ensures.value)) in
     adds_whole c.args.self.now.held.entries.items c.add.new.self.entries.items c.from.result
     (Asks (Free owner.name block.number)) _
-    c.in_ok-add.ensures (c.from.ensures ∙ ap (λ (step : Step). Asks step) c.in-Some-freeing.ensures.step)
+    c.in_ok-add.ensures.added (c.from.ensures ∙ ap (λ (step : Step). Asks step) c.in-Some-freeing.ensures.step)
     (freeing_is _ _ (life_of owner) block owns (sym c.in-Some-remove.ensures.value) c.in-Some-freeing.ensures.own)
 
 pub returns-clause-acts : goal.returns-clause-acts
 returns-clause-acts c =
     acts_quiet c.args.self.now.held.entries.items c.add.new.self.entries.items c.from.result
-    (Asks (Free c.in-Some-get.owner.now.name c.in-Some-remove.block.number)) c.in_ok-add.ensures
+    (Asks (Free c.in-Some-get.owner.now.name c.in-Some-remove.block.number)) c.in_ok-add.ensures.added
     (c.from.ensures ∙ ap (λ (step : Step). Asks step) c.in-Some-freeing.ensures.step) refl

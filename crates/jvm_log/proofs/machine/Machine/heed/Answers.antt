@@ -1,6 +1,7 @@
--- What an event asks leaves loaders that it doesn't speak of.
+-- What an event asks leaves loaders that it doesn't speak of, and a request that is given up takes no name.
 use Rattle.std.proofs.Common.{rules}
 use Rattle.jvm_log.proofs.KnownLemmas.{same_is}
+use Rattle.jvm_log.proofs.NameLemmas.{uses_given_up}
 use Rattle.jvm_log.proofs.machine.Machine.heed.Goals as goal
 
 pub returns-in-Requested-clause-loaders : goal.returns-in-Requested-clause-loaders
@@ -20,3 +21,11 @@ returns-in-Told-clause-loaders c = search (rules, same_is c.args.self.now c.tell
 
 pub returns-in-Collection-clause-loaders : goal.returns-in-Collection-clause-loaders
 returns-in-Collection-clause-loaders c = search (rules, same_is c.args.self.now c.collect.new.self c.collect.ensures.loaders)
+
+pub returns-in-Requested-clause-names : goal.returns-in-Requested-clause-names
+returns-in-Requested-clause-names c =
+    uses_given_up c.ask.result c.args.said.thread c.args.self.now c.ask.new.self c.ask.ensures.lines c.ask.ensures.names
+
+pub returns-in-Failed-clause-names : goal.returns-in-Failed-clause-names
+returns-in-Failed-clause-names c =
+    uses_given_up c.refuse.result c.args.said.thread c.args.self.now c.refuse.new.self c.refuse.ensures.lines c.refuse.ensures.names

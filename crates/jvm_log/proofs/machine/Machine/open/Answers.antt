@@ -1,6 +1,6 @@
 -- A loader is opened under a name that was free.
 use Rattle.std.proofs.Common.{◌∙◌}
-use Rattle.jvm_log.specs.Waits.{acts_in, names_in, waiting_in}
+use Rattle.jvm_log.specs.Waits.{acts_in, lines_in, names_in}
 use Rattle.jvm_log.proofs.GivingLemmas.{adds_born, opens_as}
 use Rattle.jvm_log.proofs.HeldLemmas.{acts_born}
 use Rattle.jvm_log.proofs.NameLemmas.{uses_taken}
@@ -8,7 +8,7 @@ use Rattle.jvm_log.proofs.machine.Machine.open.Goals as goal
 
 pub returns-then-birth-eq0-clause-lines : goal.returns-then-birth-eq0-clause-lines
 returns-then-birth-eq0-clause-lines c =
-    opens_as (names_in c.set_kind.new.self) (waiting_in c.args.self.now) (waiting_in c.set_kind.new.self) c.in-Some.name
+    opens_as (names_in c.set_kind.new.self) (lines_in c.args.self.now) (lines_in c.set_kind.new.self) c.in-Some.name
     (c.set_kind.ensures.lines
     ∙ adds_born c.args.self.now.held.entries.items c.open.new.self.entries.items c.in-Some.name c.in_ok-line.ensures.added)
 
@@ -21,7 +21,7 @@ returns-then-birth-eq0-clause-names c =
 
 pub returns-else-birth-eq0-clause-lines : goal.returns-else-birth-eq0-clause-lines
 returns-else-birth-eq0-clause-lines c =
-    opens_as _ (waiting_in c.args.self.now) _ c.in-Some.name
+    opens_as _ (lines_in c.args.self.now) _ c.in-Some.name
     (adds_born c.args.self.now.held.entries.items c.open.new.self.entries.items c.in-Some.name c.in_ok-line.ensures.added)
 
 pub returns-else-birth-eq0-clause-names : goal.returns-else-birth-eq0-clause-names

@@ -2,7 +2,7 @@
 use Rattle.std.proofs.Common.{◌≡◌, ◌∙◌, [], List, ap, append-nil, refl, subst, sym}
 use Rattle.jvm_log.specs.declared.event.Said.{Said}
 use Rattle.jvm_log.specs.declared.machine.Machine.{Machine}
-use Rattle.jvm_log.specs.Following.{HandsOut}
+use Rattle.jvm_log.specs.Following.{Ends}
 use Rattle.jvm_log.specs.Known.{known_in, waits}
 use Rattle.jvm_log.specs.Waits.{is_closed}
 use Rattle.metalog.specs.Trace.{WritesTrace}
@@ -10,7 +10,7 @@ use Rattle.metalog.specs.UnderWay.{HasEnded, IsUnderWay}
 use Rattle.metalog.specs.declared.conversion.Conversion.{Conversion}
 use Rattle.metalog.specs.declared.options.Options.{Options}
 use Rattle.metalog.proofs.EndedLemmas.{ends_written}
-use Rattle.metalog.proofs.UnderWayLemmas.{goes_on, same_lines, stays}
+use Rattle.metalog.proofs.UnderWayLemmas.{goes_on, is_over, same_lines}
 use Rattle.metalog.proofs.conversion.Conversion.finish.Goals as goal
 
 pub returns : goal.returns
@@ -19,8 +19,8 @@ returns g c = λ start said come.
     let after = g.W.Write.contents c.hand_on.new.output in
     let machine : c.warn.new.self.machine ≡ c.finish-trouble.new.self =
     ap (λ (its : Conversion g.row.E.Denot). its.machine) c.in_ok-warn.ensures in
-    let warned = stays c.args.self.now c.warn.new.self before
-    (subst (λ (m : Machine). HandsOut [] (known_in c.args.self.now.machine) (known_in m)) (sym machine) c.finish-trouble.ensures.keeps)
+    let warned = is_over c.args.self.now c.warn.new.self before
+    (subst (λ (m : Machine). Ends (known_in c.args.self.now.machine) (known_in m)) (sym machine) c.finish-trouble.ensures.keeps)
     (ap (λ (its : Conversion g.row.E.Denot). its.options) c.in_ok-warn.ensures)
     (ap (λ (its : Conversion g.row.E.Denot). its.kept) c.in_ok-warn.ensures)
     (ap (λ (its : Conversion g.row.E.Denot). its.text) c.in_ok-warn.ensures) in

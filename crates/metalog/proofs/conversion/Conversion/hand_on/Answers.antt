@@ -1,8 +1,9 @@
 -- A turn hands on the line that the machine gives, and the last finds that it gives none.
-use Rattle.std.proofs.Common.{◌≡◌, ◌∙◌, [], ap, arith, length, refl}
+use Rattle.std.proofs.Common.{◌≡◌, ◌∙◌, [], ◌∷◌, ap, arith, length, refl}
 use Rattle.jvm_log.specs.declared.machine.Machine.{Machine}
 use Rattle.jvm_log.specs.Known.{known_in, waits}
 use Rattle.jvm_log.specs.Waits.{is_closed}
+use Rattle.jvm_log.proofs.FollowingLemmas.{gives_first}
 use Rattle.metalog.proofs.UnderWayLemmas.{gives, goes_on, stays}
 use Rattle.metalog.proofs.conversion.Conversion.hand_on.Goals as goal
 
@@ -20,7 +21,9 @@ loop-given-preserved g c =
           (gives c.loop-given.self (record c.loop-given.self { machine = c.next_line.new.self }) (c.hand_on_line.new.self, after) before
           c.in-Some.line.command gave refl refl refl on);
       closed = ap (λ (m : Machine). is_closed m) on.machine ∙ c.next_line.ensures.closed ∙ c.loop-given.invariant.closed;
-      fewer = omega (arith, same, ap length gave.first, c.loop-given.invariant.fewer);
+      fewer =
+          omega (arith, same, ap length (gives_first (c.in-Some.line.command ∷ []) (known_in c.loop-given.self.machine)
+          (known_in c.next_line.new.self) gave), c.loop-given.invariant.fewer);
     }
 
 pub returns-in_default-clause-comes : goal.returns-in_default-clause-comes

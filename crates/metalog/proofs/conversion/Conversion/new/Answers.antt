@@ -8,6 +8,7 @@ use Rattle.metalog.proofs.conversion.Conversion.new.Goals as goal
 pub returns : goal.returns
 returns g c = record {
   options_are = refl;
+  closed = c.in_ok-new.ensures.closed;
   comes = λ start.
       begins start _
       (subst (λ (reports : Bool). KnowsNothing reports (known_in c.in_ok-new.field-0)) c.are_after_collections.ensures c.in_ok-new.ensures)
