@@ -20,7 +20,8 @@ use Rattle.ms_trace.specs.declared.trace.Line.{Line}
 use Rattle.ms_trace.specs.Steps.{step_of}
 use Rattle.ms_run.specs.Gating.{GateCall, Before, After, IsGated, IsGatedBy, AreGated, AreTasksGated, AreGatedFrom}
 use Rattle.ms_run.specs.Gating.{AreGatedByTurn, phase_after}
-use Rattle.ms_run.specs.Shares.{AreDealt, AreSteps, AreWorkedByTurn, Position, task_of, tasks_at, tasks_of}
+use Rattle.ms_run.specs.Shares.{AreDealt, AreSteps, AreWorkedByTurn, Position, task_of, tasks_at}
+use Rattle.ms_run.specs.Shares.{tasks_in, tasks_of}
 use Rattle.ms_run.specs.Turn.{HasOwnShare, HaveOwnShares, IsSameTurn, TurnState, position_in, shares_in, worker_by, worker_in}
 use Rattle.ms_run.specs.Workers.{IsByTurn}
 use Rattle.ms_run.specs.declared.share.Share.{Share}
@@ -65,11 +66,12 @@ pub no_task_gated : (told : GateCall → Type 0) (worker : ℕ) → AreTasksGate
 no_task_gated told worker = All-nil (λ (task : Task). IsGated told worker task.line)
 
 pub more_tasks_gated : (told : GateCall → Type 0) (worker : ℕ) (tasks : List Task) (at : ℕ) (task : Task)
-    → AreTasksGated told worker (take at tasks) → at < length tasks → IsGated told worker (get_or tasks at task).line
-    → AreTasksGated told worker (take (at + 1) tasks)
-more_tasks_gated told worker tasks at task so_far more one =
+    → AreTasksGated told worker (take at tasks) → at < length tasks → get_or tasks at task ≡ task
+    → IsGated told worker task.line → AreTasksGated told worker (take (at + 1) tasks)
+more_tasks_gated told worker tasks at task so_far more is one =
     rw (take_more tasks at task more)
-    (All-push (λ (t : Task). IsGated told worker t.line) (take at tasks) (get_or tasks at task) so_far one)
+    (All-push (λ (t : Task). IsGated told worker t.line) (take at tasks) (get_or tasks at task) so_far
+    (subst (λ (t : Task). IsGated told worker t.line) (sym is) one))
 
 pub all_tasks_gated : (told : GateCall → Type 0) (worker : ℕ) (tasks : List Task) (at : ℕ)
     → AreTasksGated told worker (take at tasks) → at ≡ length tasks → AreTasksGated told worker tasks
@@ -130,20 +132,21 @@ own_tasks_gated told worker share (task ∷ tasks) own gated = (
 
 pub shares_gated : (told : GateCall → Type 0) (worker : Option ℕ → ℕ) (position : Position) (shared : LockState)
     (shares : List Share) (lines : List Line) (loaders : List (ℕ × LoaderView))
-    → AreDealt position shared shares lines loaders → AreWorkedByTurn worker shares
-    → All (λ (share : Share). AreTasksGated told share.worker share.tasks.items) shares → AreGated told worker lines
+    → AreDealt position shared shares lines loaders → AreWorkedByTurn worker shares lines
+    → All (λ (share : Share). AreTasksGated told share.worker (tasks_in lines share)) shares
+    → AreGated told worker lines
 shares_gated told worker position shared shares lines loaders dealt turns gated =
     All-from_recursion (λ (line : Line). IsGatedBy told worker line (step_of line.command)) lines
     (dealt_gated told worker position lines (λ name.
     let there = share_at shares (position name) (dealt.within name) in
     subst (AllByRecursion (λ (task : Task). IsGated told (worker (loader_of task.step)) task.line))
     (dealt.tasks (position name) there.0 there.1)
-    (own_tasks_gated told worker there.0 there.0.tasks.items
-    (recursion_from_All (λ (task : Task). there.0.worker ≡ worker (loader_of task.step)) there.0.tasks.items
+    (own_tasks_gated told worker there.0 (tasks_in lines there.0)
+    (recursion_from_All (λ (task : Task). there.0.worker ≡ worker (loader_of task.step)) (tasks_in lines there.0)
     (turns (position name) there.0 there.1))
-    (recursion_from_All (λ (task : Task). IsGated told there.0.worker task.line) there.0.tasks.items
-    (at_position (λ (share : Share). AreTasksGated told share.worker share.tasks.items) shares (position name) there.0 gated
-    there.1)))))
+    (recursion_from_All (λ (task : Task). IsGated told there.0.worker task.line) (tasks_in lines there.0)
+    (at_position (λ (share : Share). AreTasksGated told share.worker (tasks_in lines share)) shares (position name)
+    there.0 gated there.1)))))
 
 -- Where there is one share, its worker is that of each line.
 only_share : (turn : TurnState) (step : Step) → shares_in turn ≡ 1 → HasOwnShare turn (Some step)

@@ -30,7 +30,7 @@ use Rattle.ms_run.proofs.OrderLemmas.{HasPart, AreWoven, ordered}
 use Rattle.ms_run.proofs.machine.WholeLemmas.{one_run}
 use Rattle.ms_shared.proofs.SeatGatherLemmas.{HasOwn}
 use Rattle.ms_run.specs.Shares.{AreAt, position_for, said_in, IsReady, AllWorked, Position, AreApart, AreDealt, AreMerged}
-use Rattle.ms_run.specs.Shares.{AreSteps}
+use Rattle.ms_run.specs.Shares.{AreSteps, tasks_in}
 use Rattle.std.specs.Prelude.{slice_index_or}
 use Rattle.ms_run.proofs.sharing.StandByLemmas.{same_merged, all_at_positions}
 use Rattle.ms_run.specs.Turn.{TurnState, position_in, position_of, worker_in, IsSameTurn}
@@ -44,8 +44,8 @@ use Rattle.ms_run.proofs.WorkedLemmas.{seat_at, share_at, still_apart, team_of, 
 pub phase_of : (worker : Option ℕ → ℕ) (share : ℕ → ℕ) (position : Position) (shared : LockState) (shares others : List Share) (lines : List Line)
     (added : List Answer) (said : List Said)
     (loaders : List (ℕ × LoaderView)) (old new : Machine)
-    → AreDealt position shared shares lines loaders → AllWorked shares others
-    → AreSaid lines added said → AreMerged position others said → IsGood old → IsGood new
+    → AreDealt position shared shares lines loaders → AllWorked lines shares others
+    → AreSaid lines added said → AreMerged position others lines said → IsGood old → IsGood new
     → old ≡ machine_of shared.first loaders → AreTogether shared.first loaders → IsMadeFrom shared.first others new
     → new.limits ≡ old.limits
     → AllByRecursion (λ (s : Said). position (loader_of s.0) ≡ share (worker (loader_of s.0))) said
@@ -62,7 +62,7 @@ phase_of worker share position shared shares others lines added said loaders old
     }
   where
     there : (name : Option ℕ) → (done : Share) × (slice_get others (position name) ≡ Some done)
-    there name = share_at others (position name) (omega (arith, same_count shares others all, dealt.within name))
+    there name = share_at others (position name) (omega (arith, same_count lines shares others all, dealt.within name))
 
     apart : AreApart position others
     apart = still_apart position shares others lines dealt.apart dealt.tasks all
@@ -74,7 +74,7 @@ phase_of worker share position shared shares others lines added said loaders old
     after = map team_of others
 
     many : length before ≡ length others
-    many = length-map shares team_of ∙ sym (same_count shares others all)
+    many = length-map shares team_of ∙ sym (same_count lines shares others all)
 
     done_at : (at : ℕ) → at < length before → (done : Share) × (slice_get others at ≡ Some done)
     done_at at less = share_at others at (omega (arith, many))
@@ -82,7 +82,7 @@ phase_of worker share position shared shares others lines added said loaders old
     begins_at : (at : ℕ) → (done : Share) × (slice_get others at ≡ Some done)
         → AreAt position at loaders (slice_index_or before at [])
     begins_at at (done, found) =
-        let from = worked_from shares others at done all found in
+        let from = worked_from lines shares others at done all found in
         subst (AreAt position at loaders) (sym (loaders_at shares at from.share from.is)) (record {
           here = λ name goes. dealt.here at from.share name from.is goes;
           apart = λ name differs. dealt.apart at from.share name from.is differs;
@@ -98,7 +98,7 @@ phase_of worker share position shared shares others lines added said loaders old
     parted : (at : ℕ) → (done : Share) × (slice_get others at ≡ Some done)
         → HasPart position said made.history.log (slice_index_or before at []) (slice_index_or after at []) at
     parted at (done, found) =
-        let from = worked_from shares others at done all found in let acted = from.worked.acted in
+        let from = worked_from lines shares others at done all found in let acted = from.worked.acted in
         let fresh = (at_position (IsReady shared) shares at from.share dealt.ready from.is).fresh in
         let its = seat_at (HasOwn made.history.log) others at done
         (recursion_from_All (HasOwn made.history.log) (map seat_of others) made.history.own) found in
@@ -127,7 +127,7 @@ phase_of worker share position shared shares others lines added said loaders old
         (subst (λ (m : Machine). IsOneRun worker (machine_of shared.first loaders) said m) (sym made.ends.machine)
         (one_run position shared.first made.last before after loaders made.ends.loaders said woven.order worker share
         together
-        (λ name. omega (arith, many, same_count shares others all, dealt.within name))
+        (λ name. omega (arith, many, same_count lines shares others all, dealt.within name))
         (λ at less. begins_at at (done_at at less)) (λ at less. ends_at at (done_at at less)) woven.runs woven.keeps
         (subst (λ (m : Machine). AreNamed m.loaders) made.ends.machine good.names) placed))
 
@@ -135,9 +135,9 @@ phase_of worker share position shared shares others lines added said loaders old
     purges =
         let done = (there None).0 in
         let found = (there None).1 in
-        let from = worked_from shares others (position None) done all found in
+        let from = worked_from lines shares others (position None) done all found in
         let its =
-        recursion_from_All IsDoneIfPurge (said_in from.share.tasks.items done.replies.items) from.worked.purges in
+        recursion_from_All IsDoneIfPurge (said_in (tasks_in lines from.share) done.replies.items) from.worked.purges in
         let whole = merged _ done found ∙ ap (λ (l : List Task). said_in l done.replies.items) from.worked.tasks in
         All-from_recursion IsDoneIfPurge said
         (purged_all (λ (s : Said). position (loader_of s.0) == position None)
@@ -197,8 +197,8 @@ pub ended : (old_turn turn : TurnState) (shared : LockState) (shares others : Li
     (added : List Answer) (said : List Said) (loaders : List (ℕ × LoaderView)) (old new : Machine)
     → IsSameTurn old_turn turn
     → AreDealt (position_for (position_in turn) lines) shared shares lines loaders
-    → AllWorked shares others
-    → AreSaid lines added said → AreMerged (position_in turn) others said
+    → AllWorked lines shares others
+    → AreSaid lines added said → AreMerged (position_in turn) others lines said
     → IsGood old → IsGood new
     → old ≡ machine_of shared.first loaders → AreTogether shared.first loaders → IsMadeFrom shared.first others new
     → new.limits ≡ shared.first.limits → shared.first.limits ≡ old.limits

@@ -24,29 +24,31 @@ use Rattle.ms_run.specs.Shares.{AllWorked, AreApart, HaveTasks, IsMannedShare, I
 use Rattle.ms_run.specs.Shares.{AreAnswered}
 
 -- The share that became one that is worked.
-pub record WorkedFrom (shares : List Share) (at : ℕ) (done : Share) : Type 0 where
+pub record WorkedFrom (lines : List Line) (shares : List Share) (at : ℕ) (done : Share) : Type 0 where
   pub share : Share
   pub is : slice_get shares at ≡ Some share
-  pub worked : IsWorked share done
+  pub worked : IsWorked lines share done
 
-pub worked_from : (shares others : List Share) (at : ℕ) (done : Share) → AllWorked shares others
-    → slice_get others at ≡ Some done
-    → WorkedFrom shares at done
-worked_from [] [] at done all found = absurd (cc)
-worked_from [] (other ∷ others) at done all found = absurd all
-worked_from (share ∷ shares) [] at done all found = absurd all
-worked_from (share ∷ shares) (other ∷ others) zero done all found =
+pub worked_from : (lines : List Line) (shares others : List Share) (at : ℕ) (done : Share)
+    → AllWorked lines shares others → slice_get others at ≡ Some done
+    → WorkedFrom lines shares at done
+worked_from lines [] [] at done all found = absurd (cc)
+worked_from lines [] (other ∷ others) at done all found = absurd all
+worked_from lines (share ∷ shares) [] at done all found = absurd all
+worked_from lines (share ∷ shares) (other ∷ others) zero done all found =
     let same : other ≡ done =
-    cc in record { share = share; is = refl; worked = subst (λ (d : Share). IsWorked share d) same all.0 }
-worked_from (share ∷ shares) (other ∷ others) (suc at) done all found =
-    let rest = worked_from shares others at done all.1 found in
+    cc in record { share = share; is = refl; worked = subst (λ (d : Share). IsWorked lines share d) same all.0 }
+worked_from lines (share ∷ shares) (other ∷ others) (suc at) done all found =
+    let rest = worked_from lines shares others at done all.1 found in
     record { share = rest.share; is = rest.is; worked = rest.worked }
 
-pub same_count : (shares others : List Share) → AllWorked shares others → length others ≡ length shares
-same_count [] [] all = refl
-same_count [] (other ∷ others) all = absurd all
-same_count (share ∷ shares) [] all = absurd all
-same_count (share ∷ shares) (other ∷ others) all = ap (λ (n : ℕ). suc n) (same_count shares others all.1)
+pub same_count : (lines : List Line) (shares others : List Share) → AllWorked lines shares others
+    → length others ≡ length shares
+same_count lines [] [] all = refl
+same_count lines [] (other ∷ others) all = absurd all
+same_count lines (share ∷ shares) [] all = absurd all
+same_count lines (share ∷ shares) (other ∷ others) all =
+    ap (λ (n : ℕ). suc n) (same_count lines shares others all.1)
 
 -- What holds of each position's share holds of each.
 each_position : (P : Share → Type 0) (shares : List Share)
@@ -59,28 +61,28 @@ at_position P shares at share all found =
     subst P (get_or_from_slice_get shares at share share found) (all at share (slice_get_within shares at share found))
 
 -- Worked shares stand over the lock that they stood over, and serve their loaders.
-pub own_seats : (shared : LockState) (shares others : List Share) → All (IsReady shared) shares
-    → AllWorked shares others
+pub own_seats : (shared : LockState) (lines : List Line) (shares others : List Share) → All (IsReady shared) shares
+    → AllWorked lines shares others
     → All (λ (share : Share). share.seat.id ≡ shared.id) others
-own_seats shared shares others ready all =
+own_seats shared lines shares others ready all =
     each_position (λ (share : Share). share.seat.id ≡ shared.id) others
-    (λ at done found. let from = worked_from shares others at done all found in
+    (λ at done found. let from = worked_from lines shares others at done all found in
     from.worked.id ∙ (at_position (IsReady shared) shares at from.share ready from.is).own)
 
-pub all_manned : (shares others : List Share) → AllWorked shares others
+pub all_manned : (lines : List Line) (shares others : List Share) → AllWorked lines shares others
     → All IsMannedShare others
-all_manned shares others all =
+all_manned lines shares others all =
     each_position IsMannedShare others
-    (λ at done found. (worked_from shares others at done all found).worked.manned)
+    (λ at done found. (worked_from lines shares others at done all found).worked.manned)
 
 -- Each has its tasks still, and a reply to each.
 pub all_answered : (position : Position) (shares others : List Share) (lines : List Line) → HaveTasks position shares lines
-    → AllWorked shares others
+    → AllWorked lines shares others
     → AreAnswered position others lines
 all_answered position shares others lines tasks all = λ at done found.
-    let from = worked_from shares others at done all found in (
+    let from = worked_from lines shares others at done all found in (
       from.worked.tasks ∙ tasks at from.share from.is,
-      from.worked.replies ∙ from.share.tasks.ok.0 ∙ ap length (sym from.worked.tasks) ∙ sym done.tasks.ok.0,
+      from.worked.replies ∙ ap length (sym from.worked.tasks),
     )
 
 -- In another share nothing is said of it.
@@ -124,9 +126,9 @@ works_others name old (act ∷ acts) new (mid, one, works) none = elim (names_or
 -- A loader isn't begun in a share that its lines don't go to.
 pub still_apart : (position : Position) (shares others : List Share) (lines : List Line) → AreApart position shares
     → HaveTasks position shares lines
-    → AllWorked shares others → AreApart position others
+    → AllWorked lines shares others → AreApart position others
 still_apart position shares others lines apart tasks all = λ at done name found away.
-    let from = worked_from shares others at done all found in
+    let from = worked_from lines shares others at done all found in
     let acted = from.worked.acted in
     let nothing =
     subst (λ (l : List Task). own_said name (said_in l done.replies.items) ≡ []) (sym (tasks at from.share from.is))

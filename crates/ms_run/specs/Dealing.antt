@@ -14,7 +14,7 @@ use Rattle.ms_shared.specs.SeatView.{SeatState, LockState}
 use Rattle.ms_shared.specs.MeterRule.{MeterSeatState, MeterState}
 use Rattle.ms_run.specs.Manned.{IsManned}
 use Rattle.ms_run.specs.Metering.{meter_of, unmoved}
-use Rattle.ms_run.specs.Shares.{Position, IsReady, tasks_at}
+use Rattle.ms_run.specs.Shares.{Position, IsReady, tasks_at, tasks_by, tasks_in}
 use Rattle.ms_run.specs.declared.share.Task.{Task}
 use Rattle.ms_run.specs.declared.share.Share.{Share}
 
@@ -89,7 +89,7 @@ pub record IsShareAt (position : Position) (shared : LockState) (lines : List Li
   pub number : share.seat.number ≡ at
   pub apart : (name : ℕ) → position (Some name) ≢ at → named share.loaders name ≡ None
   pub here : (name : ℕ) → position (Some name) ≡ at → named share.loaders name ≡ named loaders name
-  pub tasks : share.tasks.items ≡ tasks_at position at lines
+  pub tasks : tasks_in lines share ≡ tasks_at position at lines
 
 -- Shares of the positions from one on.
 abbrev pub AreSharesFrom : Position → LockState → List Line → Loaded → ℕ → List Share → Type 0
@@ -97,13 +97,13 @@ AreSharesFrom position shared lines loaders at [] = Unit {0}
 AreSharesFrom position shared lines loaders at (share ∷ shares) =
     IsShareAt position shared lines loaders at share × AreSharesFrom position shared lines loaders (suc at) shares
 
--- A share newly made for a worker: it has these tasks and this seat of the meter, room for all
--- replies, and none yet.
-pub record IsNewShare (worker : ℕ) (tasks : List Task) (meter : MeterSeatState) (share : Share) : Type 0 where
+-- A share newly made for a worker: it has the lines at these indices and this seat of the meter, room
+-- for all replies, and none yet.
+pub record IsNewShare (worker : ℕ) (indices : List ℕ) (meter : MeterSeatState) (share : Share) : Type 0 where
   pub worker_is : share.worker ≡ worker
-  pub tasks_are : share.tasks.items ≡ tasks
+  pub indices_are : share.indices.items ≡ indices
   pub meter_is : share.meter ≡ meter
-  pub room : vec_len share.tasks ≤ vec_capacity share.replies
+  pub room : vec_len share.indices ≤ vec_capacity share.replies
   pub none : share.replies.items ≡ []
 
 -- There are so many shares; where all positions are of them, each has what is its own.
@@ -118,21 +118,23 @@ AreWorkersFrom active at [] = Unit {0}
 AreWorkersFrom active at (share ∷ shares) =
     (share.worker ≡ slice_index_or active at 0) × AreWorkersFrom active (suc at) shares
 
--- Lists of tasks by share.
-abbrev pub TaskLists : Type 0
-TaskLists = List (Vec Task Global)
+-- Lists of indices by share.
+abbrev pub IndexLists : Type 0
+IndexLists = List (Vec ℕ Global)
 
--- Each share's list has the tasks of the lines that go to it.
-abbrev pub AreListed : Position → List Line → TaskLists → Type 0
-AreListed position lines lists =
-    (at : ℕ) (list : Vec Task Global) → slice_get lists at ≡ Some list → list.items ≡ tasks_at position at lines
+-- Each share's list has the tasks of the lines that go to it; an index is one in all lines.
+abbrev pub AreListed : List Line → Position → List Line → IndexLists → Type 0
+AreListed all position lines lists =
+    (at : ℕ) (list : Vec ℕ Global) → slice_get lists at ≡ Some list
+    → tasks_by all list.items ≡ tasks_at position at lines
 
-abbrev pub AreEmpty : TaskLists → Type 0
-AreEmpty lists = (at : ℕ) (list : Vec Task Global) → slice_get lists at ≡ Some list → list.items ≡ []
+abbrev pub AreEmpty : IndexLists → Type 0
+AreEmpty lists = (at : ℕ) (list : Vec ℕ Global) → slice_get lists at ≡ Some list → list.items ≡ []
 
 -- Each share's list has those of some more tasks that go to it.
-abbrev pub AreAdded : List Task → Position → TaskLists → TaskLists → Type 0
-AreAdded tasks position lists new =
-    (at : ℕ) (list : Vec Task Global) → slice_get new at ≡ Some list
-    → (was : Vec Task Global) × (slice_get lists at ≡ Some was)
-    × (list.items ≡ was.items ++ filter (λ (task : Task). position (loader_of task.step) == at) tasks)
+abbrev pub AreAdded : List Line → List Task → Position → IndexLists → IndexLists → Type 0
+AreAdded all tasks position lists new =
+    (at : ℕ) (list : Vec ℕ Global) → slice_get new at ≡ Some list
+    → (was : Vec ℕ Global) × (slice_get lists at ≡ Some was)
+    × (tasks_by all list.items
+    ≡ tasks_by all was.items ++ filter (λ (task : Task). position (loader_of task.step) == at) tasks)

@@ -3,6 +3,7 @@ use Rattle.std.specs.Prelude.{◌≡◌, ◌≢◌, ℕ, ◌<◌, ◌≤◌, ◌
 use Rattle.std.specs.Prelude.{vec_capacity, slice_get, cond}
 use Rattle.std.specs.List.{All, filter, zip}
 use Rattle.ms_base.specs.declared.step.Step.{Step}
+use Rattle.ms_base.specs.declared.step.Step.TheVariants.{Purge}
 use Rattle.ms_base.specs.declared.step.Reply.{Reply}
 use Rattle.ms_base.specs.Committed.{is_among}
 use Rattle.ms_base.specs.Names.{named}
@@ -23,6 +24,25 @@ use Rattle.ms_run.specs.Turn.{TurnState, shares_in, worker_in}
 use Rattle.ms_run.specs.declared.share.Task.{Task}
 use Rattle.ms_run.specs.declared.share.Share.{Share}
 
+-- The task of a line: a purge where it asks no step, and of line 0 where there is no line.
+abbrev pub task_by : ℕ → Option Step → Task
+task_by number None = record { line = number; step = Purge }
+task_by number (Some step) = record { line = number; step = step }
+
+abbrev pub task_if : Option Line → Task
+task_if None = task_by 0 None
+task_if (Some line) = task_by line.number (step_of line.command)
+
+-- The tasks of the lines at some indices, and so those of a share.
+abbrev pub task_at : List Line → ℕ → Task
+task_at lines index = task_if (slice_get lines index)
+
+abbrev pub tasks_by : List Line → List ℕ → List Task
+tasks_by lines indices = map (task_at lines) indices
+
+abbrev pub tasks_in : List Line → Share → List Task
+tasks_in lines share = tasks_by lines share.indices.items
+
 -- What was asked and replied in a share.
 abbrev pub said_in : List Task → List Reply → List Said
 said_in tasks replies = zip (map (λ (task : Task). task.step) tasks) replies
@@ -37,7 +57,7 @@ pub record IsReady (shared : LockState) (share : Share) : Type 0 where
   pub own : share.seat.id ≡ shared.id
   pub fresh : share.seat.events ≡ []
   pub manned : IsMannedShare share
-  pub room : vec_len share.tasks ≤ vec_capacity share.replies
+  pub room : vec_len share.indices ≤ vec_capacity share.replies
   pub none : share.replies.items ≡ []
 
 -- The same, and its seat of the meter is of this one.
@@ -50,22 +70,23 @@ pub record StandOver (shared : LockState) (count : ℕ) (shares : List Share) : 
   pub manned : All IsMannedShare shares
   pub all : shared.seats ≡ count
 
--- A share is worked: each task has its reply, by acts of which each is its own loader's, the seat
--- made the tasks' events and no other, and the meter's seat moved as the words in use did.
-pub record IsWorked (share done : Share) : Type 0 where
+-- A share of some lines is worked: each task has its reply, by acts of which each is its own loader's,
+-- the seat made the tasks' events and no other, and the meter's seat moved as the words in use did.
+pub record IsWorked (lines : List Line) (share done : Share) : Type 0 where
   pub id : done.seat.id ≡ share.seat.id
   pub manned : IsMannedShare done
-  pub tasks : done.tasks.items ≡ share.tasks.items
-  pub replies : vec_len done.replies ≡ vec_len share.tasks
-  pub purges : ArePurged (said_in share.tasks.items done.replies.items)
-  pub acted : HasActed share.seat done.seat share.loaders (said_in share.tasks.items done.replies.items) done.loaders
+  pub tasks : tasks_in lines done ≡ tasks_in lines share
+  pub replies : vec_len done.replies ≡ length (tasks_in lines share)
+  pub purges : ArePurged (said_in (tasks_in lines share) done.replies.items)
+  pub acted : HasActed share.seat done.seat share.loaders (said_in (tasks_in lines share) done.replies.items)
+      done.loaders
   pub moved : IsMoved share.meter (used_in share.loaders) done.meter (used_in done.loaders)
 
 -- Each share is worked.
-abbrev pub AllWorked : List Share → List Share → Type 0
-AllWorked [] [] = Unit {0}
-AllWorked (share ∷ shares) (done ∷ others) = IsWorked share done × AllWorked shares others
-AllWorked _ _ = ⊥
+abbrev pub AllWorked : List Line → List Share → List Share → Type 0
+AllWorked lines [] [] = Unit {0}
+AllWorked lines (share ∷ shares) (done ∷ others) = IsWorked lines share done × AllWorked lines shares others
+AllWorked lines _ _ = ⊥
 
 -- Where the lines of each loader go in a phase, by the loader's name, and those of a purge: to
 -- which share, by its position.
@@ -122,18 +143,18 @@ AreHere position shares loaders =
 -- Each share has the tasks of the lines that go to it.
 abbrev pub HaveTasks : Position → List Share → List Line → Type 0
 HaveTasks position shares lines =
-    (at : ℕ) (share : Share) → slice_get shares at ≡ Some share → share.tasks.items ≡ tasks_at position at lines
+    (at : ℕ) (share : Share) → slice_get shares at ≡ Some share → tasks_in lines share ≡ tasks_at position at lines
 
 -- Each share has only tasks whose worker works it.
-abbrev pub AreWorkedByTurn : (Option ℕ → ℕ) → List Share → Type 0
-AreWorkedByTurn worker shares =
+abbrev pub AreWorkedByTurn : (Option ℕ → ℕ) → List Share → List Line → Type 0
+AreWorkedByTurn worker shares lines =
     (at : ℕ) (share : Share) → slice_get shares at ≡ Some share
-    → All (λ (task : Task). share.worker ≡ worker (loader_of task.step)) share.tasks.items
+    → All (λ (task : Task). share.worker ≡ worker (loader_of task.step)) (tasks_in lines share)
 
 -- There is a share for each worker whose turn it is, and it has only that worker's tasks.
-pub record AreOfTurn (turn : TurnState) (shares : List Share) : Type 0 where
+pub record AreOfTurn (turn : TurnState) (shares : List Share) (lines : List Line) : Type 0 where
   pub count : length shares ≡ shares_in turn
-  pub workers : AreWorkedByTurn (worker_in turn) shares
+  pub workers : AreWorkedByTurn (worker_in turn) shares lines
 
 -- Each share's seat has the number of its position.
 abbrev pub AreNumbered : List Share → Type 0
@@ -162,13 +183,15 @@ AreSteps lines = All (λ (line : Line). (step : Step) × (step_of line.command �
 abbrev pub AreAnswered : Position → List Share → List Line → Type 0
 AreAnswered position shares lines =
     (at : ℕ) (share : Share) → slice_get shares at ≡ Some share
-    → (share.tasks.items ≡ tasks_at position at lines) × (vec_len share.replies ≡ vec_len share.tasks)
+    → (tasks_in lines share ≡ tasks_at position at lines)
+    × (vec_len share.replies ≡ length (tasks_in lines share))
 
 -- What was said in a phase is, for each share, what was said in it.
-abbrev pub AreMerged : Position → List Share → List Said → Type 0
-AreMerged position shares said =
+abbrev pub AreMerged : Position → List Share → List Line → List Said → Type 0
+AreMerged position shares lines said =
     (at : ℕ) (share : Share) → slice_get shares at ≡ Some share
-    → filter (λ (s : Said). position (loader_of s.0) == at) said ≡ said_in share.tasks.items share.replies.items
+    → filter (λ (s : Said). position (loader_of s.0) == at) said
+    ≡ said_in (tasks_in lines share) share.replies.items
 
 -- The loaders of all shares are together, each as it is in its share.
 abbrev pub IsGathered : Position → List Share → List (ℕ × LoaderState) → Type 0

@@ -7,11 +7,11 @@
 //! Kept true: lines and loader of one name are in one share, whose seat serves the loader. The
 //! first share's seat serves all at first, and hands on what the others' lines name, so a loader
 //! that stands by stays there. Each share has a seat of the phase's meter, with nothing counted
-//! yet. Takes memory for seats, lists of tasks and of replies, and positions of loaders; nothing
+//! yet. Takes memory for seats, lists of lines and of replies, and positions of loaders; nothing
 //! waits.
 ghost use Rattle.std.specs.Prelude.{◌≡◌, ◌+◌, ◌∷◌, [], ◌≤◌, map, IfOk, OnOk, vec_len};
 ghost use Rattle.std.specs.Prelude.{◌<◌};
-ghost use Rattle.std.specs.Prelude.{◌≢◌, ℕ, IsTrue, Some, slice_get};
+ghost use Rattle.std.specs.Prelude.{◌≢◌, ℕ, IsTrue, List, Some, slice_get};
 ghost use Rattle.std.specs.Option.{is_some};
 ghost use Rattle.ms_base.specs.declared.kind.Space.TheVariants.{NonClass, Class};
 ghost use Rattle.ms_base.specs.Names.{named};
@@ -22,14 +22,15 @@ ghost use Rattle.ms_loader_map.specs.Used.{used_in};
 ghost use Rattle.ms_shared.specs.SeatView.{ServesBy, new_seats, opened_by, with_account};
 ghost use Rattle.ms_shared.specs.SeatView.{without_account};
 ghost use Rattle.ms_run.specs.Metering.{used_over, meter_of};
-ghost use Rattle.ms_run.specs.Shares.{AreDealt, AreSteps, tasks_of, names_in, position_for};
+ghost use Rattle.ms_trace.specs.declared.trace.Line.{Line as LineOf};
+ghost use Rattle.ms_run.specs.Shares.{AreDealt, AreSteps, tasks_by, tasks_of, names_in, position_for};
 ghost use Rattle.ms_run.specs.Dealing.{AreCrews, AreListed, AreEmpty, AreAdded, IsHanded};
 ghost use Rattle.ms_run.specs.Dealing.{AreHanded, AreSeats};
 ghost use Rattle.ms_run.specs.Dealing.{AreDealtTo, AreWorkersFrom, HaveMeters, IsNewShare, IsSameSeat};
 ghost use Rattle.ms_run.specs.Shares.{AreOfTurn};
 
 use crate::gathering::put_loader;
-use crate::share::{Share, Task};
+use crate::share::{Share, read_task};
 use crate::turn::{Turn, loader_named};
 use ms_loader::Loader;
 use ms_loader_map::Loaders;
@@ -58,7 +59,7 @@ pub fn deal(
     requires together { AreTogether pool loaders }
     requires steps { AreSteps lines.now }
     requires shared { HaveOwnShares turn.now lines.now }
-    ensures workers { IfOk result (λ made. AreOfTurn turn.now made.1.items) }
+    ensures workers { IfOk result (λ made. AreOfTurn turn.now made.1.items lines.now) }
     ensures dealt { IfOk result (λ made. AreDealt (position_for (position_in turn.now) lines.now)
         made.0 made.1.items lines.now loaders) }
     ensures first { IfOk result (λ made. made.0.first ≡ pool) }
@@ -141,14 +142,16 @@ fn deal_to(
     let mut first = Crew { seat, loaders };
     for seat in seats {
         let at = shares.len() + 1;
-        let tasks = take_list(alloc, &mut lists, at);
+        let indices = take_list(alloc, &mut lists, at);
         let meter = meters.remove(0);
         let worker = turn.worker(at);
-        let share = share_beside(alloc, worker, shared, &mut first, seat, tasks, meter)?;
+        let share = share_beside(
+            alloc, worker, shared, lines, &mut first, seat, indices, meter,
+        )?;
         shares.push_reserved(share);
     }
-    let tasks = take_list(alloc, &mut lists, 0);
-    let share = make_share(alloc, turn.worker(0), tasks, first, first_meter)?;
+    let indices = take_list(alloc, &mut lists, 0);
+    let share = make_share(alloc, turn.worker(0), indices, first, first_meter)?;
     put_first(shares, share)
 }
 
@@ -166,22 +169,24 @@ fn put_first(mut shares: Vec<Share>, share: Share) -> Result<Vec<Share>, AllocEr
 }
 
 /// Makes the share of a worker with a seat that serves nothing: the first crew hands on all loaders
-/// that the tasks name.
+/// that the lines at the indices name.
 fn share_beside(
     alloc: Global,
     worker: usize,
     shared: &SharedPool,
+    lines: &[Line],
     first: &mut Crew,
     seat: PoolSeat,
-    tasks: Vec<Task>,
+    indices: Vec<usize>,
     meter: MeterSeat,
 ) -> Result<Share, AllocError>
     requires { AreCrews shared.now first.old.seat first.old.loaders seat [] }
-    ensures made { IfOk result (IsNewShare worker tasks.items meter) }
+    ensures made { IfOk result (IsNewShare worker indices.items meter) }
     ensures crews { IfOk result (λ share.
         AreCrews shared.now first.new.seat first.new.loaders share.seat share.loaders) }
     ensures handed { IfOk result (λ share.
-        AreHanded (names_in tasks.items) first.old.loaders first.new.loaders share.loaders) }
+        AreHanded (names_in (tasks_by lines.now indices.items)) first.old.loaders
+        first.new.loaders share.loaders) }
     ensures first { IfOk result (λ share. IsSameSeat first.old.seat first.new.seat) }
     ensures seat { IfOk result (λ share. IsSameSeat seat share.seat) }
     ensures used { IfOk result (λ share.
@@ -189,54 +194,55 @@ fn share_beside(
 {
     let loaders = Loaders::new(alloc);
     let mut crew = Crew { seat, loaders };
-    hand_all(shared, tasks.as_slice(), first, &mut crew)?;
-    make_share(alloc, worker, tasks, crew, meter)
+    hand_all(shared, lines, indices.as_slice(), first, &mut crew)?;
+    make_share(alloc, worker, indices, crew, meter)
 }
 
 /// Makes the share of a worker, with room for its replies.
 fn make_share(
     alloc: Global,
     worker: usize,
-    tasks: Vec<Task>,
+    indices: Vec<usize>,
     crew: Crew,
     meter: MeterSeat,
 ) -> Result<Share, AllocError>
-    ensures made { IfOk result (IsNewShare worker tasks.items meter) }
+    ensures made { IfOk result (IsNewShare worker indices.items meter) }
     ensures seat { IfOk result (λ share. share.seat ≡ crew.seat) }
     ensures loaders { IfOk result (λ share. share.loaders ≡ crew.loaders) }
 {
-    let replies = Vec::with_capacity(alloc, tasks.len())?;
+    let replies = Vec::with_capacity(alloc, indices.len())?;
     let Crew { seat, loaders } = crew;
     Ok(Share {
         worker,
         seat,
         meter,
         loaders,
-        tasks,
+        indices,
         replies,
     })
 }
 
-/// Lists the tasks of each share, in the order of the lines.
+/// Lists the indices of each share's lines, in their order.
 fn deal_lines(
     alloc: Global,
     turn: &Turn,
     lines: &[Line],
     count: usize,
-) -> Result<Vec<Vec<Task>>, AllocError>
+) -> Result<Vec<Vec<usize>>, AllocError>
     requires count { count ≡ shares_in turn.now }
-    ensures listed { IfOk result (λ lists. AreListed (position_in turn.now) lines.now lists.items) }
+    ensures listed { IfOk result (λ lists.
+        AreListed lines.now (position_in turn.now) lines.now lists.items) }
     ensures count { IfOk result (λ lists. vec_len lists ≡ count) }
 {
     let mut lists = empty_lists(alloc, count)?;
-    for line in lines {
-        add_task(turn, *line, &mut lists)?;
+    for (index, line) in lines.iter().enumerate() {
+        add_line(turn, index, *line, &mut lists)?;
     }
     Ok(lists)
 }
 
-/// Makes so many lists of no task.
-fn empty_lists(alloc: Global, count: usize) -> Result<Vec<Vec<Task>>, AllocError>
+/// Makes so many lists of no line.
+fn empty_lists(alloc: Global, count: usize) -> Result<Vec<Vec<usize>>, AllocError>
     ensures listed { IfOk result (λ lists. AreEmpty lists.items) }
     ensures count { IfOk result (λ lists. vec_len lists ≡ count) }
 {
@@ -247,26 +253,29 @@ fn empty_lists(alloc: Global, count: usize) -> Result<Vec<Vec<Task>>, AllocError
     Ok(lists)
 }
 
-/// Adds the task of a line to the list of the share that it goes to.
-fn add_task(turn: &Turn, line: Line, lists: &mut Vec<Vec<Task>>) -> Result<(), AllocError>
+/// Adds a line's index to the list of the share that it goes to.
+fn add_line(
+    turn: &Turn,
+    index: usize,
+    line: Line,
+    lists: &mut Vec<Vec<usize>>,
+) -> Result<(), AllocError>
     requires count { vec_len lists.old ≡ shares_in turn.now }
     ensures count { vec_len lists.new ≡ vec_len lists.old }
-    ensures added { OnOk result
-        (AreAdded (tasks_of (line ∷ [])) (position_in turn.now) lists.old.items lists.new.items) }
+    ensures added { (lines : List LineOf) → slice_get lines index ≡ Some line → OnOk result
+        (AreAdded lines (tasks_of (line ∷ [])) (position_in turn.now) lists.old.items
+        lists.new.items) }
 {
     let Command::Step(step) = line.command() else {
         return Ok(());
     };
     let at = turn.position(loader_named(&step));
-    lists[at].push(Task {
-        line: line.number(),
-        step,
-    })?;
+    lists[at].push(index)?;
     Ok(())
 }
 
 /// Takes the list of a share out, and leaves an empty one.
-fn take_list(alloc: Global, lists: &mut Vec<Vec<Task>>, at: usize) -> Vec<Task>
+fn take_list(alloc: Global, lists: &mut Vec<Vec<usize>>, at: usize) -> Vec<usize>
     requires within { at < vec_len lists.old }
     ensures taken { slice_get lists.old.items at ≡ Some result }
     ensures count { vec_len lists.new ≡ vec_len lists.old }
@@ -276,10 +285,11 @@ fn take_list(alloc: Global, lists: &mut Vec<Vec<Task>>, at: usize) -> Vec<Task>
     mem::replace(&mut lists[at], Vec::new(alloc))
 }
 
-/// Hands on all loaders that tasks name, to a crew that has none.
+/// Hands on all loaders that the lines at some indices name, to a crew that has none.
 fn hand_all(
     shared: &SharedPool,
-    tasks: &[Task],
+    lines: &[Line],
+    indices: &[usize],
     from: &mut Crew,
     to: &mut Crew,
 ) -> Result<(), AllocError>
@@ -288,15 +298,17 @@ fn hand_all(
     ensures crews { OnOk result
         (AreCrews shared.now from.new.seat from.new.loaders to.new.seat to.new.loaders) }
     ensures handed { OnOk result
-        (AreHanded (names_in tasks.now) from.old.loaders from.new.loaders to.new.loaders) }
+        (AreHanded (names_in (tasks_by lines.now indices.now)) from.old.loaders from.new.loaders
+        to.new.loaders) }
     ensures from { OnOk result (IsSameSeat from.old.seat from.new.seat) }
     ensures to { OnOk result (IsSameSeat to.old.seat to.new.seat) }
     ensures used { OnOk result
         (used_in from.new.loaders + used_in to.new.loaders
         ≡ used_in from.old.loaders + used_in to.old.loaders) }
 {
-    for task in tasks {
-        // A loader goes over at the first task that names it.
+    for at in indices {
+        let task = read_task(lines, *at);
+        // A loader goes over at the first line that names it.
         if let Some(name) = loader_named(&task.step) {
             if from.loaders.contains(name) {
                 hand_on(shared, name, from, to)?;
@@ -307,7 +319,7 @@ fn hand_all(
 }
 
 /// Hands the loader of a name on, which is there: both of its accounts, then itself. Out of line,
-/// since most tasks name one that went over.
+/// since most lines name one that went over.
 #[inline(never)]
 fn hand_on(shared: &SharedPool, name: u16, from: &mut Crew, to: &mut Crew) -> Result<(), AllocError>
     requires there { IsTrue (is_some (named from.old.loaders name)) }

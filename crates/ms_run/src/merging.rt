@@ -31,7 +31,7 @@ pub fn merge<S: AnswerSink>(
     requires answered { AreAnswered (position_in turn.now) shares.now.items lines.now }
     requires steps { AreSteps lines.now }
     ensures { OnOk result (Puts S.took (λ answers. (said : List Said) × AreSaid lines.now answers said
-        × AreMerged (position_in turn.now) shares.now.items said) sink.old sink.new) }
+        × AreMerged (position_in turn.now) shares.now.items lines.now said) sink.old sink.new) }
 {
     let mut taken = vec![in alloc; 0; shares.len()]?;
     for line in lines {

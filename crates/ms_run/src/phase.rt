@@ -113,7 +113,7 @@ fn run_shares<R: Threads + Wait + Sync, G: Gate + Sync, S: AnswerSink>(
     } = run;
     let (pool, loaders) = system.into_parts();
     let (shared, shares, meter) = deal(alloc, turn, lines, pool, loaders)?;
-    let shares = work_all(rt, alloc, &shared, &meter, used, gate, shares)?;
+    let shares = work_all(rt, alloc, &shared, &meter, used, gate, lines, shares)?;
     merge(alloc, turn, lines, &shares, sink)?;
     let (system, amount) = end_shares(alloc, shared, shares, meter)?;
     let used = used.wrapping_add(amount);

@@ -8,44 +8,51 @@ ghost use Rattle.std.specs.Prelude.{◌≡◌, IfOk, IfErr, OnOk};
 ghost use Rattle.std.specs.List.{All};
 ghost use Rattle.ms_run.specs.Replay.{IsWanting};
 ghost use Rattle.ms_run.specs.Metering.{after_look};
-ghost use Rattle.ms_run.specs.Shares.{IsReadyFor, IsWorked, AllWorked};
+ghost use Rattle.ms_run.specs.Shares.{IsReadyFor, IsWorked, AllWorked, tasks_in};
 ghost use Rattle.ms_run.specs.declared.share.Share.{Share as ShareOf};
 ghost use Rattle.ms_run.specs.Gating.{AreTasksGated};
 
 use crate::fault::RunFault;
 use crate::gate::Gate;
 use crate::metering::answer_metered;
-use crate::share::Share;
+use crate::share::{Share, read_task};
 use ms_shared::{MeterSeat, SharedPool, UsedMeter};
+use ms_trace::Line;
 use std::alloc::Global;
 use std::snapshot::Snapshot;
 use std::sync::Wait;
 use std::thread;
 use std::thread::{Promise, Threads};
 
-/// That a thread works the share that was handed to it, and calls the gate for each task.
-struct WorkOf<G> {
+/// That a thread works the share of a phase's lines that was handed to it, and calls the gate for
+/// each task.
+struct WorkOf<'a, G> {
+    lines: Snapshot<&'a [Line]>,
     share: Snapshot<Share>,
     gate: Snapshot<G>,
 }
 
-impl<G> Drop for WorkOf<G> {
-    /// Lets both snapshots go, which have no bytes.
+impl<'a, G> Drop for WorkOf<'a, G> {
+    /// Lets the snapshots go, which have no bytes.
     fn drop(self) {
-        let WorkOf { share: _, gate: _ } = self;
+        let WorkOf {
+            lines: _,
+            share: _,
+            gate: _,
+        } = self;
     }
 }
 
-impl<G: Gate> Promise<Share> for WorkOf<G> {
+impl<'a, G: Gate> Promise<Share> for WorkOf<'a, G> {
     ghost use Rattle.ms_run.specs.Gating.{AreTasksGated};
-    ghost use Rattle.ms_run.specs.Shares.{IsWorked};
+    ghost use Rattle.ms_run.specs.Shares.{IsWorked, tasks_in};
 
-    ghost kept_by = { λ work done. IsWorked work.share.value done
+    ghost kept_by = { λ work done. IsWorked work.lines.value.now work.share.value done
         × AreTasksGated (G.told work.gate.value) work.share.value.worker
-        work.share.value.tasks.items };
+        (tasks_in work.lines.value.now work.share.value) };
 }
 
-/// Works all shares, each by a thread. An error means that memory or a thread was wanting; then
+/// Works all shares of a phase's lines, each by a thread. An error means that memory or a thread was wanting; then
 /// what was worked is lost. So many words were in use before, which the gate learns. Takes
 /// memory.
 pub fn work_all<R: Threads + Wait + Sync, G: Gate + Sync>(
@@ -55,12 +62,13 @@ pub fn work_all<R: Threads + Wait + Sync, G: Gate + Sync>(
     meter: &UsedMeter,
     before: u64,
     gate: &G,
+    lines: &[Line],
     shares: Vec<Share>,
 ) -> Result<Vec<Share>, RunFault>
     requires { All (IsReadyFor shared.now meter.now) shares.items }
-    ensures worked { IfOk result (λ done. AllWorked shares.items done.items) }
+    ensures worked { IfOk result (λ done. AllWorked lines.now shares.items done.items) }
     ensures gated { OnOk result (All (λ (share : ShareOf).
-        AreTasksGated (G.told gate.now) share.worker share.tasks.items) shares.items) }
+        AreTasksGated (G.told gate.now) share.worker (tasks_in lines.now share)) shares.items) }
     ensures wanting { IfErr result IsWanting }
 {
     thread::scope(
@@ -68,15 +76,17 @@ pub fn work_all<R: Threads + Wait + Sync, G: Gate + Sync>(
         rt,
         |scope| -> Result<Vec<Share>, RunFault>
             requires { All (IsReadyFor shared.now meter.now) shares.items }
-            ensures worked { IfOk result (λ done. AllWorked shares.items done.items) }
+            ensures worked { IfOk result (λ done.
+                AllWorked lines.entry.now shares.items done.items) }
             ensures gated { OnOk result (All (λ (share : ShareOf).
-                AreTasksGated (G.told gate.entry.now) share.worker share.tasks.items)
-                shares.items) }
+                AreTasksGated (G.told gate.entry.now) share.worker
+                (tasks_in lines.entry.now share)) shares.items) }
             ensures wanting { IfErr result IsWanting }
         {
             let mut handles = Vec::with_capacity(alloc, shares.len())?;
             for share in shares {
                 let work_of = WorkOf {
+                    lines: Snapshot::of(&lines),
                     share: Snapshot::of(&share),
                     gate: Snapshot::of(gate),
                 };
@@ -84,10 +94,10 @@ pub fn work_all<R: Threads + Wait + Sync, G: Gate + Sync>(
                     work_of,
                     move || -> Share
                         requires { IsReadyFor shared.now meter.now share }
-                        ensures worked { IsWorked share result }
+                        ensures worked { IsWorked lines.entry.now share result }
                         ensures gated { AreTasksGated (G.told gate.entry.now) share.worker
-                            share.tasks.items }
-                    { work(rt, alloc, shared, meter, before, gate, share) },
+                            (tasks_in lines.entry.now share) }
+                    { work(rt, alloc, shared, meter, before, gate, lines, share) },
                 );
                 match started {
                     Ok(handle) => handles.push_reserved(handle),
@@ -108,7 +118,7 @@ pub fn work_all<R: Threads + Wait + Sync, G: Gate + Sync>(
     )
 }
 
-/// Works a share: each task between the gate's two calls.
+/// Works a share of a phase's lines: each task between the gate's two calls.
 fn work<R: Wait, G: Gate>(
     rt: &R,
     alloc: Global,
@@ -116,22 +126,24 @@ fn work<R: Wait, G: Gate>(
     meter: &UsedMeter,
     before: u64,
     gate: &G,
+    lines: &[Line],
     share: Share,
 ) -> Share
     requires { IsReadyFor shared.now meter.now share }
-    ensures worked { IsWorked share result }
-    ensures gated { AreTasksGated (G.told gate.now) share.worker share.tasks.items }
+    ensures worked { IsWorked lines.now share result }
+    ensures gated { AreTasksGated (G.told gate.now) share.worker (tasks_in lines.now share) }
 {
     let Share {
         worker,
         seat,
         meter: mut counted,
         mut loaders,
-        tasks,
+        indices,
         mut replies,
     } = share;
     let mut pool = shared.at(rt, seat);
-    for task in &tasks {
+    for at in &indices {
+        let task = read_task(lines, *at);
         gate.before(worker, task.line);
         let step = task.step;
         let reply = answer_metered(alloc, &mut pool, &mut loaders, meter, &mut counted, step);
@@ -144,7 +156,7 @@ fn work<R: Wait, G: Gate>(
         seat: pool.into_seat(),
         meter: counted,
         loaders,
-        tasks,
+        indices,
         replies,
     }
 }

@@ -18,6 +18,7 @@ use Rattle.ms_loader_map.specs.Used.{used_by, used_in}
 use Rattle.ms_loaders.proofs.sums.UsedLemmas.{used_is, used_fits}
 use Rattle.ms_shared.specs.MeterRule.{MeterState, MeterSeatState}
 use Rattle.ms_shared.specs.SeatView.{LockState}
+use Rattle.ms_trace.specs.declared.trace.Line.{Line}
 use Rattle.ms_run.specs.declared.share.Share.{Share}
 use Rattle.ms_run.specs.Joined.{IsJoined, AreJoined}
 use Rattle.ms_run.specs.Metering.{used_words_of, used_over, meter_of, unmoved, amount_of}
@@ -83,13 +84,13 @@ none_amount : (count : ℕ) (meter : MeterState) → amounts (replicate count (u
 none_amount count meter = omega (arith, sum_by-replicate (λ (seat : MeterSeatState). seat.amount) count (unmoved meter))
 
 -- Worked shares' seats moved together as the words in use of all loaders did.
-moved_over : (shares others : List Share) → AllWorked shares others
+moved_over : (lines : List Line) (shares others : List Share) → AllWorked lines shares others
     → (used_over shares + amounts (map meter_of others)) % 2 ^ 64
     ≡ (used_over others + amounts (map meter_of shares)) % 2 ^ 64
-moved_over [] [] all = refl
-moved_over [] (done ∷ others) all = absurd all
-moved_over (share ∷ shares) [] all = absurd all
-moved_over (share ∷ shares) (done ∷ others) all =
+moved_over lines [] [] all = refl
+moved_over lines [] (done ∷ others) all = absurd all
+moved_over lines (share ∷ shares) [] all = absurd all
+moved_over lines (share ∷ shares) (done ∷ others) all =
     rw (
       sum_by-cons (λ (s : Share). used_in s.loaders) share shares,
       sum_by-cons (λ (s : Share). used_in s.loaders) done others,
@@ -97,7 +98,7 @@ moved_over (share ∷ shares) (done ∷ others) all =
       sum_by-cons (λ (seat : MeterSeatState). seat.amount) done.meter (map meter_of others),
     ) (both_mod (2 ^ 64) (used_in share.loaders) done.meter.amount (used_in done.loaders) share.meter.amount
     (used_over shares) (amounts (map meter_of others)) (used_over others) (amounts (map meter_of shares))
-    all.0.moved.amount (moved_over shares others all.1))
+    all.0.moved.amount (moved_over lines shares others all.1))
 
 -- Each seat is of the meter that all were made with, before the work and after.
 all_of_meter : (meter : MeterState) (count : ℕ) (shares : List Share)
@@ -122,32 +123,34 @@ ready_for shared meter count shares ready same =
     both [] all own = tt
     both (x ∷ xs) all own = ((all.0, own.0), both xs all.1 own.1)
 
-still_of_meter : (meter : MeterState) (shares others : List Share) → AllWorked shares others
+still_of_meter : (meter : MeterState) (lines : List Line) (shares others : List Share) → AllWorked lines shares others
     → AllByRecursion (λ (share : Share). share.meter.id ≡ meter.id) shares
     → AllByRecursion (λ (seat : MeterSeatState). seat.id ≡ meter.id) (map meter_of others)
-still_of_meter meter [] [] all own = tt
-still_of_meter meter [] (done ∷ others) all own = absurd all
-still_of_meter meter (share ∷ shares) [] all own = absurd all
-still_of_meter meter (share ∷ shares) (done ∷ others) all own =
-    (all.0.moved.meter ∙ own.0, still_of_meter meter shares others all.1 own.1)
+still_of_meter meter lines [] [] all own = tt
+still_of_meter meter lines [] (done ∷ others) all own = absurd all
+still_of_meter meter lines (share ∷ shares) [] all own = absurd all
+still_of_meter meter lines (share ∷ shares) (done ∷ others) all own =
+    (all.0.moved.meter ∙ own.0, still_of_meter meter lines shares others all.1 own.1)
 
-pub own_meters : (meter : MeterState) (count : ℕ) (shares others : List Share) (seats : List MeterSeatState)
+pub own_meters : (meter : MeterState) (count : ℕ) (lines : List Line) (shares others : List Share)
+    (seats : List MeterSeatState)
     → map meter_of shares ≡ replicate count (unmoved meter)
-    → AllWorked shares others → seats ≡ map meter_of others → All (λ (seat : MeterSeatState). seat.id ≡ meter.id) seats
-own_meters meter count shares others seats same all are =
+    → AllWorked lines shares others → seats ≡ map meter_of others → All (λ (seat : MeterSeatState). seat.id ≡ meter.id) seats
+own_meters meter count lines shares others seats same all are =
     subst (All (λ (seat : MeterSeatState). seat.id ≡ meter.id)) (sym are)
     (All-from_recursion (λ (seat : MeterSeatState). seat.id ≡ meter.id) (map meter_of others)
-    (still_of_meter meter shares others all (all_of_meter meter count shares same)))
+    (still_of_meter meter lines shares others all (all_of_meter meter count shares same)))
 
 -- A phase's sum, added to the words in use before it, gives those in use after it.
-pub used_after : (meter : MeterState) (count : ℕ) (shares others : List Share) (seats : List MeterSeatState)
+pub used_after : (meter : MeterState) (count : ℕ) (lines : List Line) (shares others : List Share)
+    (seats : List MeterSeatState)
     (before sum : ℕ) (after : Machine)
-    → map meter_of shares ≡ replicate count (unmoved meter) → AllWorked shares others → seats ≡ map meter_of others
+    → map meter_of shares ≡ replicate count (unmoved meter) → AllWorked lines shares others → seats ≡ map meter_of others
     → before ≡ used_over shares → sum ≡ amount_of seats → used_words_of after ≡ used_over others → IsGood after
     → (before + sum) % 2 ^ 64 ≡ used_words_of after
-used_after meter count shares others seats before sum after same all are before_is sum_is after_is good =
+used_after meter count lines shares others seats before sum after same all are before_is sum_is after_is good =
     rw (before_is, sum_is, are, after_is)
-    (add-mod-mod (used_over shares) (amounts (map meter_of others)) (2 ^ 64) ∙ moved_over shares others all
+    (add-mod-mod (used_over shares) (amounts (map meter_of others)) (2 ^ 64) ∙ moved_over lines shares others all
     ∙ ap (λ (n : ℕ). (used_over others + n) % 2 ^ 64) (ap amounts same ∙ none_amount count meter)
     ∙ ap (λ (n : ℕ). n % 2 ^ 64) no_more ∙ mod-eq_of_lt (omega (arith, after_is, used_fits after good)))
   where

@@ -78,7 +78,7 @@ module _ (turn : TurnState) (at : ℕ) where
 -- Each share that is dealt has only tasks of its worker.
 pub worked_by_turn : (turn : TurnState) (lines : List Line) (shares : List Share) → HaveOwnShares turn lines
     → AreWorkersFrom turn.active 0 shares → HaveTasks (position_for (position_in turn) lines) shares lines
-    → AreWorkedByTurn (worker_in turn) shares
+    → AreWorkedByTurn (worker_in turn) shares lines
 worked_by_turn turn lines shares shared are have at share found =
     subst (λ (tasks : List Task). All (λ (task : Task). share.worker ≡ worker_in turn (loader_of task.step)) tasks)
     (sym (have at share found ∙ same_tasks (position_in turn) lines at))

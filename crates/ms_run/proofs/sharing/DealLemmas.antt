@@ -14,7 +14,7 @@ use Rattle.ms_shared.specs.Entries.{fresh}
 use Rattle.ms_shared.specs.SeatView.{SeatState, LockState}
 use Rattle.ms_run.specs.declared.share.Share.{Share}
 use Rattle.ms_run.specs.Manned.{IsManned}
-use Rattle.ms_run.specs.Shares.{Position, IsReady, tasks_at, AreDealt, AreWithin}
+use Rattle.ms_run.specs.Shares.{Position, IsReady, tasks_at, tasks_in, AreDealt, AreWithin}
 use Rattle.ms_run.specs.Dealing.{Loaded, AreCrews, AreHandedAt, AreSeats, IsSameSeat, AreSpare, IsShareAt}
 use Rattle.ms_run.specs.Dealing.{AreSharesFrom, AreDealtTo}
 
@@ -54,8 +54,8 @@ pub record IsMade (position : Position) (lines : List Line) (at : ℕ) (seat : S
     (share : Share) : Type 0 where
   pub seat_is : share.seat ≡ seat
   pub loaders_are : share.loaders ≡ loaders
-  pub tasks : share.tasks.items ≡ tasks_at position at lines
-  pub room : vec_len share.tasks ≤ vec_capacity share.replies
+  pub tasks : tasks_in lines share ≡ tasks_at position at lines
+  pub room : vec_len share.indices ≤ vec_capacity share.replies
   pub none : share.replies.items ≡ []
 
 is_ready : (position : Position) (shared : LockState) (lines : List Line) (at : ℕ) (seat : SeatState) (loaders : Loaded)

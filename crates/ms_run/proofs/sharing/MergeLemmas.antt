@@ -21,7 +21,7 @@ use Rattle.ms_base.specs.Run.Own.{Said}
 use Rattle.ms_run.specs.Replay.{AreSaid}
 use Rattle.ms_run.specs.declared.share.Task.{Task}
 use Rattle.ms_run.specs.declared.share.Share.{Share}
-use Rattle.ms_run.specs.Shares.{said_in, Position, tasks_at, AreAnswered, AreMerged}
+use Rattle.ms_run.specs.Shares.{said_in, Position, tasks_at, tasks_in, AreAnswered, AreMerged}
 use Rattle.ms_run.proofs.sharing.TaskLemmas.{all_there, at_next, said_append, said_more, task_in}
 
 -- The lines up to a position are merged.
@@ -35,7 +35,7 @@ pub record SoFar (position : Position) (lines : List Line) (shares : List Share)
   pub counts : (k d : ℕ) → k < length shares → get_or taken k d ≡ length (tasks_at position k (take at lines))
   pub told : (k : ℕ) (share : Share) → slice_get shares k ≡ Some share
       → filter (λ (s : Said). position (loader_of s.0) == k) said
-      ≡ take (length (tasks_at position k (take at lines))) (said_in share.tasks.items share.replies.items)
+      ≡ take (length (tasks_at position k (take at lines))) (said_in (tasks_in lines share) share.replies.items)
 
 pub starts : (position : Position) (lines : List Line) (shares : List Share) (before : List Answer) (count : ℕ)
     (taken : List ℕ)
@@ -79,17 +79,17 @@ next_line position lines shares at taken line there share next is asked goes wit
     }
 
 -- Its task is the next of its share, and there is a reply to it.
-pub record HasReply (share : Share) (next : ℕ) (task : Task) : Type 0 where
-  pub in_tasks : next < length share.tasks.items
+pub record HasReply (lines : List Line) (share : Share) (next : ℕ) (task : Task) : Type 0 where
+  pub in_tasks : next < length (tasks_in lines share)
   pub in_replies : next < length share.replies.items
-  pub task_is : get_or share.tasks.items next task ≡ task
+  pub task_is : get_or (tasks_in lines share) next task ≡ task
 
 pub has_reply : (position : Position) (lines : List Line) (shares : List Share) (before : List Answer) (at : ℕ)
     (answers : List Answer) (taken : List ℕ)
     (line : Line) (step : Step) (there : ℕ) (share : Share) (next : ℕ)
     → AreAnswered position shares lines → SoFar position lines shares before at answers taken
     → Next position lines shares at taken line step there share next
-    → HasReply share next (task_in line step)
+    → HasReply lines share next (task_in line step)
 has_reply position lines shares before at answers taken line step there share next answered so_far goes_on =
     record { in_tasks = in_tasks; in_replies = in_replies; task_is = task_is }
   where
@@ -103,18 +103,18 @@ has_reply position lines shares before at answers taken line step there share ne
     count = goes_on.is_next ∙ so_far.counts there next (slice_get_within shares there share goes_on.found)
         ∙ ap (λ (k : ℕ). length (tasks_at position k (take at lines))) goes_on.goes
 
-    tasks : share.tasks.items ≡ firsts ++ task_in line step ∷ later
+    tasks : tasks_in lines share ≡ firsts ++ task_in line step ∷ later
     tasks = (answered there share goes_on.found).0 ∙ ap (λ (k : ℕ). tasks_at position k lines) goes_on.goes
         ∙ all_there position lines at line step goes_on.more goes_on.asks
 
-    in_tasks : next < length share.tasks.items
+    in_tasks : next < length (tasks_in lines share)
     in_tasks = omega (arith, count, ap length tasks, length-append firsts (task_in line step ∷ later))
 
     in_replies : next < length share.replies.items
-    in_replies = omega (arith, in_tasks, (answered there share goes_on.found).1, share.replies.ok.0, share.tasks.ok.0)
+    in_replies = omega (arith, in_tasks, (answered there share goes_on.found).1, share.replies.ok.0)
 
-    task_is : get_or share.tasks.items next (task_in line step) ≡ task_in line step
-    task_is = ap (λ (n : ℕ). get_or share.tasks.items n (task_in line step)) count
+    task_is : get_or (tasks_in lines share) next (task_in line step) ≡ task_in line step
+    task_is = ap (λ (n : ℕ). get_or (tasks_in lines share) n (task_in line step)) count
         ∙ ap (λ (l : List Task). get_or l (length firsts) (task_in line step)) tasks
         ∙ get_or-append_seam firsts (task_in line step) later (task_in line step)
 
@@ -192,38 +192,38 @@ merges_next position lines shares before at answers taken line step there share 
         ∙ ap length (sym (more k))
 
     one_more : (k : ℕ) (other : Share) → slice_get shares k ≡ Some other → (position (loader_of step) == k) ≡ true
-        → take (length (firsts k) + 1) (said_in other.tasks.items other.replies.items)
-        ≡ take (length (firsts k)) (said_in other.tasks.items other.replies.items) ++ (step, reply) ∷ []
+        → take (length (firsts k) + 1) (said_in (tasks_in lines other) other.replies.items)
+        ≡ take (length (firsts k)) (said_in (tasks_in lines other) other.replies.items) ++ (step, reply) ∷ []
     one_more k other found e =
         let same : share ≡ other = same_Some share other (sym goes_on.found ∙ ap (slice_get shares) (here k e) ∙ found)
         in
         let has =
         has_reply position lines shares before at answers taken line step there share next answered so_far goes_on in
         let said_so =
-        said_more share.tasks.items share.replies.items next (task_in line step) reply has.in_tasks has.in_replies
+        said_more (tasks_in lines share) share.replies.items next (task_in line step) reply has.in_tasks has.in_replies
         has.task_is reply_is in
         let count : next ≡ length (firsts k) = next_is ∙ ap (λ (j : ℕ). length (firsts j)) (here k e) in
-        subst (λ (n : ℕ). take (n + 1) (said_in other.tasks.items other.replies.items)
-        ≡ take n (said_in other.tasks.items other.replies.items) ++ (step, reply) ∷ []) count
-        (subst (λ (s : Share). take (next + 1) (said_in s.tasks.items s.replies.items)
-        ≡ take next (said_in s.tasks.items s.replies.items) ++ (step, reply) ∷ []) same said_so)
+        subst (λ (n : ℕ). take (n + 1) (said_in (tasks_in lines other) other.replies.items)
+        ≡ take n (said_in (tasks_in lines other) other.replies.items) ++ (step, reply) ∷ []) count
+        (subst (λ (s : Share). take (next + 1) (said_in (tasks_in lines s) s.replies.items)
+        ≡ take next (said_in (tasks_in lines s) s.replies.items) ++ (step, reply) ∷ []) same said_so)
 
     told : (k : ℕ) (other : Share) → slice_get shares k ≡ Some other
         → filter (λ (s : Said). position (loader_of s.0) == k) (so_far.said ++ (step, reply) ∷ [])
-        ≡ take (length (tasks_at position k (take (at + 1) lines))) (said_in other.tasks.items other.replies.items)
+        ≡ take (length (tasks_at position k (take (at + 1) lines))) (said_in (tasks_in lines other) other.replies.items)
     told k other found =
         filter-append (λ (s : Said). position (loader_of s.0) == k) so_far.said ((step, reply) ∷ [])
         ∙ grows (position (loader_of step) == k) (filter (λ (s : Said). position (loader_of s.0) == k) so_far.said)
         (step, reply) (firsts k) (task_in line step)
-        (said_in other.tasks.items other.replies.items) (so_far.told k other found) (one_more k other found)
-        ∙ ap (λ (l : List Task). take (length l) (said_in other.tasks.items other.replies.items)) (sym (more k))
+        (said_in (tasks_in lines other) other.replies.items) (so_far.told k other found) (one_more k other found)
+        ∙ ap (λ (l : List Task). take (length l) (said_in (tasks_in lines other) other.replies.items)) (sym (more k))
 
 -- Once all lines are merged, all that was said in the shares is.
 pub all_merged : (position : Position) (lines : List Line) (shares : List Share) (before : List Answer) (at : ℕ)
     (answers : List Answer) (taken : List ℕ)
     → AreAnswered position shares lines → SoFar position lines shares before at answers taken → length lines ≤ at
     → (added : List Answer) × (said : List Said) × (answers ≡ before ++ added) × AreSaid lines added said
-    × AreMerged position shares said
+    × AreMerged position shares lines said
 all_merged position lines shares before at answers taken answered so_far ends = (
   so_far.added,
   so_far.said,
@@ -239,10 +239,10 @@ all_merged position lines shares before at answers taken answered so_far ends = 
     short tasks replies =
         omega (arith, length-zip (map (λ (t : Task). t.step) tasks) replies, length-map tasks (λ (t : Task). t.step))
 
-    merged : AreMerged position shares so_far.said
+    merged : AreMerged position shares lines so_far.said
     merged k share found =
         let its = answered k share found in
         let count = ap (λ (l : List Line). length (tasks_at position k l)) whole ∙ ap length (sym its.0) in
-        so_far.told k share found ∙ ap (λ (n : ℕ). take n (said_in share.tasks.items share.replies.items)) count
-        ∙ take_all (length share.tasks.items) (said_in share.tasks.items share.replies.items)
-        (short share.tasks.items share.replies.items)
+        so_far.told k share found ∙ ap (λ (n : ℕ). take n (said_in (tasks_in lines share) share.replies.items)) count
+        ∙ take_all (length (tasks_in lines share)) (said_in (tasks_in lines share) share.replies.items)
+        (short (tasks_in lines share) share.replies.items)

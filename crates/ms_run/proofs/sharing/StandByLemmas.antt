@@ -19,11 +19,12 @@ use Rattle.ms_run.specs.Shares.{tasks_of, tasks_at}
 use Rattle.ms_run.specs.Dealing.{Loaded, AreHanded, AreHandedAt}
 
 -- The names of the tasks from one on are its own, and those of the tasks after it.
-pub names_from : (tasks : List Task) (i : ℕ) (d : Task) → i < length tasks
-    → names_in (drop i tasks) ≡ name_with (loader_of (get_or tasks i d).step) (names_in (drop (i + 1) tasks))
-names_from tasks i d within =
+pub names_from : (tasks : List Task) (i : ℕ) (task : Task) → i < length tasks → get_or tasks i task ≡ task
+    → names_in (drop i tasks) ≡ name_with (loader_of task.step) (names_in (drop (i + 1) tasks))
+names_from tasks i task within is =
     let next : suc i ≡ i + 1 = omega arith in
-    ap names_in (drop-cons tasks i d within) ∙ ap (λ n. names_in (get_or tasks i d ∷ drop n tasks)) next
+    ap names_in (drop-cons tasks i task within) ∙ ap (λ n. names_in (get_or tasks i task ∷ drop n tasks)) next
+    ∙ ap (λ (t : Task). name_with (loader_of t.step) (names_in (drop (i + 1) tasks))) is
 
 -- A name is of the tasks that go to a position, where it is of the tasks and goes there.
 or_more : (b c d p : Bool) → c ≡ (d && p) → (b ≡ true → p ≡ true) → (b || c) ≡ ((b || d) && p)
@@ -143,7 +144,8 @@ all_at_positions position other same lines answers said told =
 
 -- And so do the replies.
 pub same_merged : (position : Position) (others : List Share) (lines : List Line) (answers : List Answer) (said : List Said)
-    → AreSaid lines answers said → AreMerged position others said → AreMerged (position_for position lines) others said
+    → AreSaid lines answers said → AreMerged position others lines said
+    → AreMerged (position_for position lines) others lines said
 same_merged position others lines answers said told merged = λ at share found.
     alike (λ (s : Said). position_for position lines (loader_of s.0) == at) (λ (s : Said). position (loader_of s.0) == at) said
     (tests_alike at said (all_at_positions position position (λ name. refl) lines answers said told))

@@ -7,11 +7,12 @@ use Rattle.std.specs.List.{All, AllByRecursion}
 use Rattle.std.proofs.lemmas.List.Elements.{All-from_recursion, All-push}
 use Rattle.ms_shared.specs.SeatView.{LockState}
 use Rattle.ms_shared.specs.MeterRule.{MeterState}
+use Rattle.ms_trace.specs.declared.trace.Line.{Line}
 use Rattle.ms_run.specs.declared.share.Share.{Share}
 use Rattle.ms_run.specs.Shares.{IsReadyFor, IsWorked, AllWorked}
 use denote.RattleType.{RattleType}
 use denote.Struct.Tuple.{TupleAt, type_at}
-use denote.Struct.Field.{shr_ref_field, row_field, u64-field}
+use denote.Struct.Field.{shr_ref_field, shr_slice_field, row_field, u64-field}
 use denote.Ref.{NamedLft}
 use denote.Param.{param}
 use Rattle.std.specs.contracts.alloc.Global as heap
@@ -40,7 +41,8 @@ use Rattle.ms_shared.specs.contracts.shared_pool.SharedPool as shared
 use Rattle.ms_shared.specs.contracts.used_meter.MeterSeat as meter_seat
 use Rattle.ms_shared.specs.contracts.used_meter.UsedMeter as meter
 use Rattle.ms_pool.specs.contracts.pool.Pool as pool
-use Rattle.ms_run.proofs.share.Task.TheSendSync as task
+use Rattle.ms_trace.proofs.trace.Line.TheSendSync as line
+use Rattle.ms_trace.specs.contracts.trace.Line as line_row
 use Rattle.ms_run.specs.contracts.share.Share as share
 
 boxed_send : IsSend boxed.the_row
@@ -67,7 +69,7 @@ meter_seat_send = search (sendable, crosses, table_seat.the_send) depth 20
 
 pub share_send : IsSend share.the_row
 share_send =
-    search (loaders_send, seat_send, meter_seat_send, sendable, crosses, task.the_send, reply.the_send) depth 20
+    search (loaders_send, seat_send, meter_seat_send, sendable, crosses, reply.the_send) depth 20
 
 pool_send : IsSend pool.the_row
 pool_send = search (sendable, crosses, mask.the_send, nodes.the_send) depth 60 fits 30000
@@ -88,22 +90,23 @@ shared_sync =
 meter_sync : IsSync meter.the_row
 meter_sync = search (sendable, crosses, table.the_sync, lease.the_sync, global.the_send, global.the_sync) depth 20
 
--- What a thread is handed: what it looks at, the words in use before, and its share.
-abbrev handed : (l m k n : NamedLft) (R G : RattleType) → List RattleType
-handed l m k n R G =
+-- What a thread is handed: what it looks at, the words in use before, the lines, and its share.
+abbrev handed : (l m k n o : NamedLft) (R G : RattleType) → List RattleType
+handed l m k n o R G =
     (shr_ref_field l (param 0 R) tt).row
     ∷ heap.the_row
     ∷ (shr_ref_field m shared.the_row tt).row
     ∷ (shr_ref_field k meter.the_row tt).row
     ∷ u64-field.row
     ∷ (shr_ref_field n (param 1 G) tt).row
+    ∷ (shr_slice_field o line_row.the_row tt).row
     ∷ share.the_row
     ∷ []
 
 -- That may go there.
-pub handed_send : (name : List ℕ) (l m k n : NamedLft) (R G : RattleType) → IsSync (param 0 R) → IsSync (param 1 G)
-    → IsSend (TupleAt name (handed l m k n R G))
-handed_send name l m k n R G r g = declared_send (type_at name (handed l m k n R G)) (
+pub handed_send : (name : List ℕ) (l m k n o : NamedLft) (R G : RattleType) → IsSync (param 0 R) → IsSync (param 1 G)
+    → IsSend (TupleAt name (handed l m k n o R G))
+handed_send name l m k n o R G r g = declared_send (type_at name (handed l m k n o R G)) (
   as_row_send (row_field (shr_ref_field l (param 0 R) tt).row) (search (r, sendable)),
   (
     as_row_send (row_field heap.the_row) global.the_send,
@@ -115,7 +118,10 @@ handed_send name l m k n R G r g = declared_send (type_at name (handed l m k n R
           as_row_send (row_field u64-field.row) (search sendable),
           (
             as_row_send (row_field (shr_ref_field n (param 1 G) tt).row) (search (g, sendable)),
-            (as_row_send (row_field share.the_row) share_send, tt),
+            (
+              as_row_send (row_field (shr_slice_field o line_row.the_row tt).row) (search (line.the_sync, sendable)),
+              (as_row_send (row_field share.the_row) share_send, tt),
+            ),
           ),
         ),
       ),
@@ -148,16 +154,18 @@ only shares [] all none is = sym (append-nil shares) ∙ is
 only shares (x ∷ rest) all none is = absurd (omega arith)
 
 -- Each result is its own share's.
-pub all_worked : {H : Type 0} (of : H → Share) (handles : List H) (done : List Share) → length done ≡ length handles
+pub all_worked : {H : Type 0} (lines : List Line) (of : H → Share) (handles : List H) (done : List Share)
+    → length done ≡ length handles
     → ((i : ℕ) (d : Share) → i < length handles
-    → (h : H) × (h ≡ get_or handles i h) × IsWorked (of h) (get_or done i d)) → AllWorked (map of handles) done
-all_worked of [] [] same each = tt
-all_worked of [] (result ∷ done) same each = absurd (omega arith)
-all_worked of (handle ∷ handles) [] same each = absurd (omega arith)
-all_worked of (handle ∷ handles) (result ∷ done) same each =
+    → (h : H) × (h ≡ get_or handles i h) × IsWorked lines (of h) (get_or done i d))
+    → AllWorked lines (map of handles) done
+all_worked lines of [] [] same each = tt
+all_worked lines of [] (result ∷ done) same each = absurd (omega arith)
+all_worked lines of (handle ∷ handles) [] same each = absurd (omega arith)
+all_worked lines of (handle ∷ handles) (result ∷ done) same each =
     let first = each zero result (omega arith) in (
-      subst (λ h. IsWorked (of h) result) first.1 first.2,
-      all_worked of handles done (omega arith) (λ i d below. each (suc i) d (omega arith)),
+      subst (λ h. IsWorked lines (of h) result) first.1 first.2,
+      all_worked lines of handles done (omega arith) (λ i d below. each (suc i) d (omega arith)),
     )
 
 -- What is true of each thread so far, and of one more.

@@ -3,7 +3,7 @@ use Rattle.std.proofs.lemmas.Result.{IfOk-weaker}
 use Rattle.std.proofs.lemmas.List.{nil_from_length}
 use Rattle.ms_shared.specs.SeatView.{SeatState}
 use Rattle.ms_run.specs.Turn.{position_in}
-use Rattle.ms_run.specs.Shares.{position_for}
+use Rattle.ms_run.specs.Shares.{position_for, tasks_by}
 use Rattle.ms_run.proofs.sharing.ByTurnLemmas.{workers_none, workers_pushed, workers_put}
 use Rattle.ms_run.proofs.sharing.StandByLemmas.{handed_at, same_tasks}
 use Rattle.ms_run.proofs.sharing.DealLemmas.{dealing_starts, dealing_on, dealing_ends, next_free}
@@ -66,26 +66,27 @@ loop-seat-preserved c = (
       (rw c.in-Some.ensures.steps.0 at c.loop-seat.invariant.0)
       (omega (arith, c.len-at.ensures, c.loop-seat.shares.ok.0))
       c.in_ok-share.ensures.crews c.in_ok-share.ensures.first c.in_ok-share.ensures.seat
-      (handed_at (position_in c.args.turn.now) c.args.lines.now (c.len-at.result + 1) c.take_list-tasks.result.items
+      (handed_at (position_in c.args.turn.now) c.args.lines.now (c.len-at.result + 1)
+      (tasks_by c.args.lines.now c.take_list-indices.result.items)
       c.loop-seat.first.loaders c.share_beside.new.first.loaders c.in_ok-share.share.loaders (omega arith)
-      (c.loop-seat.invariant.2 (c.len-at.result + 1) c.take_list-tasks.result
-      (inr (omega (arith, c.len-at.ensures))) c.take_list-tasks.ensures.taken)
+      (c.loop-seat.invariant.2 (c.len-at.result + 1) c.take_list-indices.result
+      (inr (omega (arith, c.len-at.ensures))) c.take_list-indices.ensures.taken)
       c.in_ok-share.ensures.handed)
       (record {
         seat_is = refl;
         loaders_are = refl;
-        tasks = c.in_ok-share.ensures.made.tasks_are
-            ∙ c.loop-seat.invariant.2 (c.len-at.result + 1) c.take_list-tasks.result
-            (inr (omega (arith, c.len-at.ensures))) c.take_list-tasks.ensures.taken
+        tasks = ap (tasks_by c.args.lines.now) c.in_ok-share.ensures.made.indices_are
+            ∙ c.loop-seat.invariant.2 (c.len-at.result + 1) c.take_list-indices.result
+            (inr (omega (arith, c.len-at.ensures))) c.take_list-indices.ensures.taken
             ∙ sym (same_tasks (position_in c.args.turn.now) c.args.lines.now (c.len-at.result + 1));
         room = c.in_ok-share.ensures.made.room;
         none = c.in_ok-share.ensures.made.none;
       }) c.push_reserved.ensures.items,
   omega (arith, c.push_reserved.ensures.capacity, c.loop-seat.invariant.1),
   left_more (position_in c.args.turn.now) c.args.lines.now (vec_len c.loop-seat.shares) _
-      (c.len-at.result + 1) c.loop-seat.lists.items c.take_list-tasks.new.lists.items c.loop-seat.invariant.2
-      c.push_reserved.ensures.len (omega (arith, c.len-at.ensures)) c.take_list-tasks.ensures.others,
-  c.take_list-tasks.ensures.count ∙ c.loop-seat.invariant.3,
+      (c.len-at.result + 1) c.loop-seat.lists.items c.take_list-indices.new.lists.items c.loop-seat.invariant.2
+      c.push_reserved.ensures.len (omega (arith, c.len-at.ensures)) c.take_list-indices.ensures.others,
+  c.take_list-indices.ensures.count ∙ c.loop-seat.invariant.3,
   shared_on c.args.loaders c.loop-seat.first.loaders c.share_beside.new.first.loaders
       c.in_ok-share.share.loaders _
       c.loop-seat.meters.items _ c.remove-meter.result c.in-Some.seat _
@@ -115,16 +116,16 @@ returns-clause-dealt c = IfOk-weaker c.put_first.result _ _ (λ all is.
     (record {
       seat_is = c.in_ok-share-2.ensures.seat;
       loaders_are = c.in_ok-share-2.ensures.loaders;
-      tasks = c.in_ok-share-2.ensures.made.tasks_are
-          ∙ c.loop-seat.invariant.2 0 c.take_list-tasks-2.result (inl refl) c.take_list-tasks-2.ensures.taken
+      tasks = ap (tasks_by c.args.lines.now) c.in_ok-share-2.ensures.made.indices_are
+          ∙ c.loop-seat.invariant.2 0 c.take_list-indices-2.result (inl refl) c.take_list-indices-2.ensures.taken
           ∙ sym (same_tasks (position_in c.args.turn.now) c.args.lines.now 0);
       room = c.in_ok-share-2.ensures.made.room;
       none = c.in_ok-share-2.ensures.made.none;
     }) is)
     c.put_first.ensures.items
 
-pub take_list-tasks-requires : goal.take_list-tasks-requires
-take_list-tasks-requires c = record {
+pub take_list-indices-requires : goal.take_list-indices-requires
+take_list-indices-requires c = record {
   within = omega (
     arith,
     c.loop-seat.invariant.0.count_is,
@@ -135,8 +136,8 @@ take_list-tasks-requires c = record {
   );
 }
 
-pub take_list-tasks-requires-2 : goal.take_list-tasks-requires-2
-take_list-tasks-requires-2 c =
+pub take_list-indices-requires-2 : goal.take_list-indices-requires-2
+take_list-indices-requires-2 c =
     record { within = omega (arith, c.loop-seat.invariant.0.count_is, c.loop-seat.invariant.3) }
 
 pub remove-meter-requires : goal.remove-meter-requires

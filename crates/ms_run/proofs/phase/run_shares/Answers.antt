@@ -15,7 +15,7 @@ use Rattle.ms_run.proofs.phase.run_shares.Goals as goal
 
 pub merge-requires-clause-count : goal.merge-requires-clause-count
 merge-requires-clause-count g c =
-    c.in_ok-shares.shares.ok.0 ∙ same_count _ _ c.in_ok-shares.ensures.worked ∙ c.in_ok-shared.ensures.workers.count
+    c.in_ok-shares.shares.ok.0 ∙ same_count _ _ _ c.in_ok-shares.ensures.worked ∙ c.in_ok-shared.ensures.workers.count
 
 pub merge-requires-clause-answered : goal.merge-requires-clause-answered
 merge-requires-clause-answered g c =
@@ -26,10 +26,11 @@ merge-requires-clause-answered g c =
 
 pub end_shares-requires-clause-stand : goal.end_shares-requires-clause-stand
 end_shares-requires-clause-stand g c = record {
-  own = own_seats c.in_ok-shared.shared c.in_ok-shared.shares.items c.in_ok-shares.shares.items
+  own = own_seats c.in_ok-shared.shared c.args.lines.now c.in_ok-shared.shares.items c.in_ok-shares.shares.items
       c.in_ok-shared.ensures.dealt.ready c.in_ok-shares.ensures.worked;
-  manned = all_manned c.in_ok-shared.shares.items c.in_ok-shares.shares.items c.in_ok-shares.ensures.worked;
-  all = c.in_ok-shared.ensures.dealt.count ∙ sym (same_count _ _ c.in_ok-shares.ensures.worked)
+  manned = all_manned c.args.lines.now c.in_ok-shared.shares.items c.in_ok-shares.shares.items
+      c.in_ok-shares.ensures.worked;
+  all = c.in_ok-shared.ensures.dealt.count ∙ sym (same_count _ _ _ c.in_ok-shares.ensures.worked)
       ∙ sym c.in_ok-shares.shares.ok.0;
 }
 
@@ -48,14 +49,14 @@ work_all-requires-after_bounds g c κs within =
 
 pub end_shares-requires-clause-own : goal.end_shares-requires-clause-own
 end_shares-requires-clause-own g c =
-    own_meters c.in_ok-shared.meter _ c.in_ok-shared.shares.items c.in_ok-shares.shares.items
+    own_meters c.in_ok-shared.meter _ c.args.lines.now c.in_ok-shared.shares.items c.in_ok-shares.shares.items
     (map meter_of c.in_ok-shares.shares.items)
     c.in_ok-shared.ensures.meters.unmoved_all c.in_ok-shares.ensures.worked refl
 
 pub end_shares-requires-clause-count : goal.end_shares-requires-clause-count
 end_shares-requires-clause-count g c =
     c.in_ok-shared.ensures.meters.seats ∙ c.in_ok-shared.shares.ok.0
-    ∙ sym (same_count _ _ c.in_ok-shares.ensures.worked) ∙ sym c.in_ok-shares.shares.ok.0
+    ∙ sym (same_count _ _ _ c.in_ok-shares.ensures.worked) ∙ sym c.in_ok-shares.shares.ok.0
 
 pub returns-clause-phase : goal.returns-clause-phase
 returns-clause-phase g c = λ before detail same.
@@ -84,7 +85,8 @@ returns-clause-phase g c = λ before detail same.
 
 pub raise-requires : goal.raise-requires
 raise-requires g c = λ kept.
-    used_after c.in_ok-shared.meter _ c.in_ok-shared.shares.items c.in_ok-shares.shares.items
+    used_after c.in_ok-shared.meter _ c.args.lines.now c.in_ok-shared.shares.items
+    c.in_ok-shares.shares.items
     (map meter_of c.in_ok-shares.shares.items) _ _ c.in_ok-system.system
     c.in_ok-shared.ensures.meters.unmoved_all c.in_ok-shares.ensures.worked refl
     (c.requires.used ∙ ap used_words_of (sym c.into_parts-pool.ensures.machine)
@@ -94,7 +96,8 @@ raise-requires g c = λ kept.
 pub returns-clause-counted : goal.returns-clause-counted
 returns-clause-counted g c = λ detail kept. record {
   good = c.in_ok-system.ensures.gathered.good;
-  used = λ counts. used_after c.in_ok-shared.meter _ c.in_ok-shared.shares.items c.in_ok-shares.shares.items
+  used = λ counts. used_after c.in_ok-shared.meter _ c.args.lines.now c.in_ok-shared.shares.items
+      c.in_ok-shares.shares.items
       (map meter_of c.in_ok-shares.shares.items) _ _ c.in_ok-system.system
       c.in_ok-shared.ensures.meters.unmoved_all c.in_ok-shares.ensures.worked refl
       (c.requires.used ∙ ap used_words_of (sym c.into_parts-pool.ensures.machine)

@@ -22,8 +22,13 @@ loop-given-preserved g c =
           c.in-Some.line.command gave refl refl refl on);
       closed = ap (λ (m : Machine). is_closed m) on.machine ∙ c.next_line.ensures.closed ∙ c.loop-given.invariant.closed;
       fewer =
-          omega (arith, same, ap length (gives_first (c.in-Some.line.command ∷ []) (known_in c.loop-given.self.machine)
-          (known_in c.next_line.new.self) gave), c.loop-given.invariant.fewer);
+          omega (
+            arith,
+            same,
+            ap length (gives_first (c.in-Some.line.command ∷ []) (known_in c.loop-given.self.machine)
+                (known_in c.next_line.new.self) gave),
+            c.loop-given.invariant.fewer,
+          );
     }
 
 pub returns-in_default-clause-comes : goal.returns-in_default-clause-comes

@@ -30,18 +30,20 @@ returns g c =
     ok_map c.hand_on.result _ _
     (λ (on, same). (
       other,
-      (same ∙ ap (λ (m : Machine). is_closed m) (sym machine) ∙ its.lines.closed,
-      λ more. goes_on (c.args.said ∷ []) [] (c.args.self.now, bytes) (c.learn.new.self, bytes)
-          (c.hand_on.new.self, g.W.Write.contents c.hand_on.new.output)
-          (takes_in c.args.self.now c.learn.new.self bytes c.args.said
-          (subst (λ (m : Machine). Learns c.args.said (known_in c.args.self.now.machine) (known_in m)) machine (learns more))
-          (subst (UsesNames c.args.self.now.machine) machine its.names)
-          (ap (λ (its : Conversion g.row.E.Denot). its.options) c.in_ok-learn.ensures
-          ∙ ap (λ (its : Conversion g.row.E.Denot). its.options) c.in_ok-warn.ensures)
-          (ap (λ (its : Conversion g.row.E.Denot). its.kept) c.in_ok-learn.ensures
-          ∙ ap (λ (its : Conversion g.row.E.Denot). its.kept) c.in_ok-warn.ensures)
-          (ap (λ (its : Conversion g.row.E.Denot). its.text) c.in_ok-learn.ensures
-          ∙ ap (λ (its : Conversion g.row.E.Denot). its.text) c.in_ok-warn.ensures))
-          on),
+      (
+        same ∙ ap (λ (m : Machine). is_closed m) (sym machine) ∙ its.lines.closed,
+        λ more. goes_on (c.args.said ∷ []) [] (c.args.self.now, bytes) (c.learn.new.self, bytes)
+            (c.hand_on.new.self, g.W.Write.contents c.hand_on.new.output)
+            (takes_in c.args.self.now c.learn.new.self bytes c.args.said
+            (subst (λ (m : Machine). Learns c.args.said (known_in c.args.self.now.machine) (known_in m)) machine (learns more))
+            (subst (UsesNames c.args.self.now.machine) machine its.names)
+            (ap (λ (its : Conversion g.row.E.Denot). its.options) c.in_ok-learn.ensures
+            ∙ ap (λ (its : Conversion g.row.E.Denot). its.options) c.in_ok-warn.ensures)
+            (ap (λ (its : Conversion g.row.E.Denot). its.kept) c.in_ok-learn.ensures
+            ∙ ap (λ (its : Conversion g.row.E.Denot). its.kept) c.in_ok-warn.ensures)
+            (ap (λ (its : Conversion g.row.E.Denot). its.text) c.in_ok-learn.ensures
+            ∙ ap (λ (its : Conversion g.row.E.Denot). its.text) c.in_ok-warn.ensures))
+            on,
+      ),
     ))
     (ok_both c.hand_on.result _ _ c.hand_on.ensures.comes c.hand_on.ensures.closed)

@@ -1,4 +1,4 @@
-use Rattle.std.proofs.Common.{rules, ◌≡◌, List, length, map, ap, ◌∙◌, subst, arith}
+use Rattle.std.proofs.Common.{rules, ◌≡◌, List, length, get_or, map, ap, ◌∙◌, subst, arith}
 use Rattle.std.specs.List.{All}
 use denote.Param.Send.{sendable, param_send, arg_send}
 use denote.Exit.{no}
@@ -7,17 +7,19 @@ use mir.Syntax.{named}
 use Rattle.std.specs.Vec.Iter.{into_iter_items}
 use Rattle.ms_run.specs.declared.share.Share.{Share}
 use Rattle.ms_run.specs.Gating.{AreTasksGated}
-use Rattle.ms_run.specs.Shares.{AllWorked}
+use Rattle.ms_run.specs.Shares.{AllWorked, IsWorked, tasks_in}
 use Rattle.ms_run.proofs.sharing.ThreadLemmas.{share_send, handed_send, one_more, one_more_kept, fewer_ready, only, all_kept, all_worked}
 use Rattle.ms_run.proofs.working.fn.work_all.scope.Goals as goal
 
 pub spawn_with-started-requires-send-F : goal.spawn_with-started-requires-send-F
 spawn_with-started-requires-send-F g c κs w =
-    let here : NamedLft = record { mir = named 6; lft = κs.1.1.1.1.1.1.0 } in
-    let lock : NamedLft = record { mir = named 7; lft = κs.1.1.1.1.1.1.1.0 } in
-    let count : NamedLft = record { mir = named 8; lft = κs.1.1.1.1.1.1.1.1.0 } in
-    let gate : NamedLft = record { mir = named 9; lft = κs.1.1.1.1.1.1.1.1.1.0 } in
-    param_send _ _ (arg_send _ no _ (handed_send _ here lock count gate g.row.R g.row.G (search rules) (search rules)))
+    let here : NamedLft = record { mir = named 7; lft = κs.1.1.1.1.1.1.1.0 } in
+    let lock : NamedLft = record { mir = named 8; lft = κs.1.1.1.1.1.1.1.1.0 } in
+    let count : NamedLft = record { mir = named 9; lft = κs.1.1.1.1.1.1.1.1.1.0 } in
+    let gate : NamedLft = record { mir = named 10; lft = κs.1.1.1.1.1.1.1.1.1.1.0 } in
+    let lines : NamedLft = record { mir = named 11; lft = κs.1.1.1.1.1.1.1.1.1.1.1.0 } in
+    param_send _ _ (arg_send _ no _
+    (handed_send _ here lock count gate lines g.row.R g.row.G (search rules) (search rules)))
 
 pub spawn_with-started-requires-send-T : goal.spawn_with-started-requires-send-T
 spawn_with-started-requires-send-T g c κs = search (share_send, sendable) depth 20
@@ -42,12 +44,14 @@ loop-share-preserved g c =
     let room = inv.3 in
     let there = ap length step.0 in (
       one_more (λ handle. handle.promise.share.value) _ _ c.in-Ok.handle c.in-Some.share _ _ _ items step.0
-          (ap (λ promise. promise.share.value) c.in-Ok.ensures.ok ∙ c.of.ensures) inv.0,
+          (ap (λ promise. promise.share.value) c.in-Ok.ensures.ok ∙ c.of-in-loop-share.ensures) inv.0,
       fewer_ready _ c.captures.meter.now c.in-Some.share _ _ step.0 inv.1,
       omega arith,
       omega arith,
       one_more_kept (λ handle. handle.promise.gate.value ≡ c.captures.gate.now) _ _ c.in-Ok.handle items inv.4
-          (ap (λ promise. promise.gate.value) c.in-Ok.ensures.ok ∙ c.of-in-loop-share.ensures),
+          (ap (λ promise. promise.gate.value) c.in-Ok.ensures.ok ∙ c.of-in-loop-share-2.ensures),
+      one_more_kept (λ handle. handle.promise.lines.value.now ≡ c.captures.lines.now) _ _ c.in-Ok.handle items inv.5
+          (ap (λ promise. promise.lines.value.now) c.in-Ok.ensures.ok ∙ ap (λ l. l.now) c.of.ensures),
     )
 
 pub returns-in-Ok-join_promised : goal.returns-in-Ok-join_promised
@@ -65,10 +69,17 @@ returns-in-Ok-join_promised g c = record {
       let none : length (into_iter_items c.loop-share.share-iterator) ≡ 0 = omega arith in
       let all : map (λ handle. handle.promise.share.value) c.loop-share.handles.items ≡ c.captures.shares.items =
       only _ _ _ none inv.0 ∙ given.0 in
-      subst (λ (shares : List Share). AllWorked shares c.in-Ok-join_promised.done.items) all
-      (all_worked (λ handle. handle.promise.share.value) c.loop-share.handles.items c.in-Ok-join_promised.done.items
-      (omega arith)
-      (λ i d below. let kept = (each i d (omega arith)).1 in (kept.handle, kept.handle_is, kept.kept.0)));
+      let lines = c.captures.lines.now in
+      let done = c.in-Ok-join_promised.done.items in
+      subst (λ (shares : List Share). AllWorked lines shares done) all
+      (all_worked lines (λ handle. handle.promise.share.value) c.loop-share.handles.items done (omega arith)
+      (λ i d below. let kept = (each i d (omega arith)).1 in (
+        kept.handle,
+        kept.handle_is,
+        subst (λ its. IsWorked its kept.handle.promise.share.value (get_or done i d))
+            (ap (λ handle. handle.promise.lines.value.now) kept.handle_is ∙ inv.5 i kept.handle (omega arith))
+            kept.kept.0,
+      )));
   gated =
       let inv = c.loop-share.invariant in
       let given = c.into_iter-share-iterator.ensures.into_iter_gives in
@@ -82,16 +93,21 @@ returns-in-Ok-join_promised g c = record {
       let none : length (into_iter_items c.loop-share.share-iterator) ≡ 0 = omega arith in
       let all : map (λ handle. handle.promise.share.value) c.loop-share.handles.items ≡ c.captures.shares.items =
       only _ _ _ none inv.0 ∙ given.0 in
-      let Gated : Share → Type 0 = λ share. AreTasksGated (g.G.Gate.told c.captures.gate.now) share.worker share.tasks.items in
+      let lines = c.captures.lines.now in
+      let Gated : Share → Type 0 =
+      λ share. AreTasksGated (g.G.Gate.told c.captures.gate.now) share.worker (tasks_in lines share) in
       subst (All Gated) all
       (all_kept (λ handle. handle.promise.share.value) Gated c.loop-share.handles.items c.in-Ok-join_promised.done.items
       (omega arith)
       (λ i d below. let kept = (each i d (omega arith)).1 in (
         kept.handle,
         kept.handle_is,
-        subst (λ gate. AreTasksGated (g.G.Gate.told gate) kept.handle.promise.share.value.worker
-            kept.handle.promise.share.value.tasks.items)
-            (ap (λ handle. handle.promise.gate.value) kept.handle_is ∙ inv.4 i kept.handle (omega arith)) kept.kept.1,
+        subst (λ its. AreTasksGated (g.G.Gate.told c.captures.gate.now) kept.handle.promise.share.value.worker
+            (tasks_in its kept.handle.promise.share.value))
+            (ap (λ handle. handle.promise.lines.value.now) kept.handle_is ∙ inv.5 i kept.handle (omega arith))
+            (subst (λ gate. AreTasksGated (g.G.Gate.told gate) kept.handle.promise.share.value.worker
+            (tasks_in kept.handle.promise.lines.value.now kept.handle.promise.share.value))
+            (ap (λ handle. handle.promise.gate.value) kept.handle_is ∙ inv.4 i kept.handle (omega arith)) kept.kept.1),
       )));
   wanting = tt;
 }

@@ -13,3 +13,4 @@ invariant-loop-share g l =
     × (length (into_iter_items rest) ≡ into_iter_len rest)
     × (vec_len l.handles + into_iter_len rest ≤ vec_capacity l.handles)
     × All (λ handle. handle.promise.gate.value ≡ l.gate.now) l.handles.items
+    × All (λ handle. handle.promise.lines.value.now ≡ l.lines.now) l.handles.items
