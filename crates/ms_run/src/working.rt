@@ -52,10 +52,10 @@ impl<'a, G: Gate> Promise<Share> for WorkOf<'a, G> {
         (tasks_in work.lines.value.now work.share.value) };
 }
 
-/// Works all shares of a phase's lines, each by a thread. An error means that memory or a thread was wanting; then
-/// what was worked is lost. So many words were in use before, which the gate learns. Takes
-/// memory.
-pub fn work_all<R: Threads + Wait + Sync, G: Gate + Sync>(
+/// Works all shares of a phase's lines, each by a thread. An error means that memory or a thread was
+/// wanting; then what was worked is lost. So many words were in use before, which the gate learns.
+/// Takes memory.
+pub(crate) fn work_all<R: Threads + Wait + Sync, G: Gate + Sync>(
     rt: &R,
     alloc: Global,
     shared: &SharedPool,
