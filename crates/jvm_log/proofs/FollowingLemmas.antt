@@ -1,5 +1,5 @@
 -- A machine that gives what waits first. Used by the functions of `machine`.
-use Rattle.std.proofs.Common.{◌≡◌, ◌≤◌, ◌<◌, ◌^◌, List, [], ◌∷◌, ◌++◌, false, true≢false, Option, Some, None, ap, append_assoc, append-nil, arith, length, length-append, refl, sym, ◌∙◌}
+use Rattle.std.proofs.Common.{◌≡◌, ◌≤◌, ◌<◌, ◌+◌, ◌^◌, List, [], ◌∷◌, ◌++◌, true, false, true≢false, Option, Some, None, ap, append_assoc, append-nil, arith, length, length-append, refl, sym, ◌∙◌}
 use Rattle.std.specs.Prelude.{IfNone, IfSome}
 use Rattle.std.specs.Option.{is_some}
 use Rattle.std.proofs.lemmas.Grind.{flat_map-append}
@@ -11,7 +11,7 @@ use Rattle.jvm_log.specs.declared.held.Held.{Held}
 use Rattle.jvm_log.specs.declared.machine.Machine.{Machine}
 use Rattle.jvm_log.specs.declared.placed.Placed.{Placed}
 use Rattle.jvm_log.specs.Following.{HandsOut}
-use Rattle.jvm_log.specs.Held.{Goes, is_open, known_of, waiting}
+use Rattle.jvm_log.specs.Held.{Goes, is_open, known_of, none_may_go, waiting}
 use Rattle.jvm_log.specs.Known.{Known, known_in, waits}
 use Rattle.jvm_log.proofs.HeldLemmas.{waiting-more}
 
@@ -81,3 +81,19 @@ few_wait (Whole line ∷ entries) = omega (arith, few_wait entries)
 few_wait (Born loader ∷ entries) = omega (arith, few_wait entries)
 few_wait (Asked ∷ entries) = omega (arith, few_wait entries)
 few_wait (Void ∷ entries) = omega (arith, few_wait entries)
+
+-- Each line that goes out leaves one less.
+pub fewer_held : (command : Command) (old new : Known) → HandsOut (command ∷ []) old new
+    → length new.held.entries.items + 1 ≤ length old.held.entries.items
+fewer_held command old new hands =
+    omega (
+      arith,
+      few_wait hands.gone,
+      ap length hands.gives,
+      ap length hands.goes.lines,
+      length-append hands.gone new.held.entries.items,
+    )
+
+pub none_left : (entries : List Entry) → length entries ≤ 0 → none_may_go entries ≡ true
+none_left [] none = refl
+none_left (entry ∷ entries) none = absurd (omega (arith, none))

@@ -7,7 +7,7 @@ use Rattle.jvm_log.specs.declared.held.Entry.{Entry}
 use Rattle.jvm_log.specs.Asking.{Asking}
 use Rattle.jvm_log.specs.Giving.{Takes}
 use Rattle.jvm_log.specs.Hearing.{trimmed}
-use Rattle.jvm_log.specs.Held.{Goes, waiting}
+use Rattle.jvm_log.specs.Held.{Goes, IsAwaiting, waiting}
 use Rattle.jvm_log.specs.Known.{Known}
 use Rattle.jvm_log.specs.Living.{Living}
 use Rattle.jvm_log.specs.Lying.{Lying}
@@ -26,9 +26,9 @@ pub record KnowsNothing (reports : Bool) (known : Known) : Type 0 where
   pub closed : known.held.closed ≡ false
   pub asked : known.reports ≡ reports
 
--- Until the log is over what a line says becomes known, and lines come to those that are held back.
+-- Once all that may go has gone, what a line says becomes known, and lines come to those that are held back.
 pub record Learns (said : Said) (old new : Known) : Type 0 where
-  pub more : old.held.closed ≡ false
+  pub awaits : IsAwaiting old.held
   pub lines : Takes said.thread said.event old new.loaders.used new.held
   pub requests : Asking said.thread said.event old new.request_of
   pub loaders : Living said.thread said.event old new.loaders

@@ -62,6 +62,11 @@ is_open (Born loader) = true
 is_open Asked = true
 is_open entry = false
 
+-- More may be known of the first entry, or there is none.
+abbrev pub none_may_go : List Entry → Bool
+none_may_go [] = true
+none_may_go (entry ∷ entries) = is_open entry
+
 -- What stands for an entry of which nothing more will be known.
 abbrev pub settled : Entry → Entry
 settled (Born loader) = Whole (opening loader Standard)
@@ -75,6 +80,11 @@ settled_first (entry ∷ entries) = settled entry ∷ entries
 -- Where more than 100,000 lines are held back the first waits no longer.
 abbrev pub shortened : List Entry → List Entry
 shortened entries = if nat_lt 100000 (length entries) then settled_first entries else entries
+
+-- The log isn't over, and what may go has gone.
+pub record IsAwaiting (held : Held) : Type 0 where
+  pub more : held.closed ≡ false
+  pub first : none_may_go held.entries.items ≡ true
 
 -- The first entries go, and the others keep their numbers. None goes of which more may be known.
 pub record Goes (gone : List Entry) (old new : Held) : Type 0 where

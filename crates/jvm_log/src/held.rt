@@ -39,7 +39,7 @@ impl Held {
     ghost use Rattle.ms_trace.specs.declared.trace.Command.TheVariants.{Step as Asks};
     ghost use Rattle.jvm_log.specs.declared.held.Entry.{Entry as EntryOf};
     ghost use Rattle.jvm_log.specs.declared.held.Entry.TheVariants.{Whole, Born, Asked, Void};
-    ghost use Rattle.jvm_log.specs.Held.{Goes, asks_at, name_acts_of, settled_first, waiting, with_line, without_line};
+    ghost use Rattle.jvm_log.specs.Held.{Goes, asks_at, name_acts_of, none_may_go, settled_first, waiting, with_line, without_line};
     ghost use Rattle.jvm_log.specs.NameActs.{name_acts};
     ghost use Rattle.jvm_log.specs.Giving.{bare};
 
@@ -164,6 +164,7 @@ impl Held {
             × (waiting gone ≡ line.command ∷ [])) }
         ensures none { IfNone result ((gone : List EntryOf) × Goes gone self.old self.new × (waiting gone ≡ [])) }
         ensures all { self.old.closed ≡ true → IfNone result (waiting self.new.entries.items ≡ []) }
+        ensures stops { IfNone result (none_may_go self.new.entries.items ≡ true) }
         ensures closed { self.new.closed ≡ self.old.closed }
     {
         for _passed in 0..self.entries.len() {
@@ -180,6 +181,7 @@ impl Held {
         ensures goes { IfSome result (λ entry. Goes (entry ∷ []) self.old self.new) }
         ensures stays { IfNone result (self.new ≡ self.old) }
         ensures all { self.old.closed ≡ true → IfNone result (self.old.entries.items ≡ []) }
+        ensures stops { IfNone result (none_may_go self.old.entries.items ≡ true) }
     {
         let entry = *self.entries.front()?;
         if !self.closed && is_open(entry) {

@@ -11,7 +11,7 @@ ghost use Rattle.std.specs.Option.{option_map};
 ghost use Rattle.jvm_log.specs.Asking.{Asking, asked, passed};
 ghost use Rattle.jvm_log.specs.Following.{Ends, HandsOut, KnowsNothing};
 ghost use Rattle.jvm_log.specs.Giving.{Adds, Answers, Bears, Gives, GivesUp, Opens, Passes, Takes, bare, freeing, given, reporting, unloading};
-ghost use Rattle.jvm_log.specs.Held.{shortened, without_line};
+ghost use Rattle.jvm_log.specs.Held.{none_may_go, shortened, without_line};
 ghost use Rattle.jvm_log.specs.Known.{blocks_in, known_in, loaders_in, owner_of, request_of, waits};
 ghost use Rattle.jvm_log.specs.Living.{Comes, Counts, Dies, IsBorn, Living, Same};
 ghost use Rattle.jvm_log.specs.Lying.{Clears, IsTaken, Lays, Lying, Tells, answer_as, laid_in};
@@ -587,7 +587,8 @@ impl Machine {
 
     /// Returns how many lines are held back: those that wait, and those that may give nothing.
     pub fn held_back(&self) -> usize
-        ensures { length (waits (known_in self.now)) ≤ result }
+        ensures waiting { length (waits (known_in self.now)) ≤ result }
+        ensures lines { result ≡ length (lines_in self.now) }
     {
         self.held.len()
     }
@@ -597,6 +598,7 @@ impl Machine {
         ensures gives { IfSome result (λ line. HandsOut (line.command ∷ []) (known_in self.old) (known_in self.new)) }
         ensures none { IfNone result (HandsOut [] (known_in self.old) (known_in self.new)) }
         ensures all { is_closed self.old ≡ true → IfNone result (waiting_in self.new ≡ []) }
+        ensures stops { IfNone result (none_may_go (lines_in self.new) ≡ true) }
         ensures closed { is_closed self.new ≡ is_closed self.old }
     {
         self.held.next()

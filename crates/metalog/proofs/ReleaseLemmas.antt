@@ -1,5 +1,5 @@
 -- A log that is heard to its end is of no other release, and takes a conversion to its end. Used by `convert`.
-use Rattle.std.proofs.Common.{◌≡◌, refl, ℕ, ◌+◌, ◌++◌, List, [], ◌∷◌, Option, Some, None, Result, Ok, Err, ◌∙◌}
+use Rattle.std.proofs.Common.{◌≡◌, ℕ, ◌+◌, ◌++◌, List, [], ◌∷◌, Option, Some, None, Result, Ok, Err, ◌∙◌}
 use Rattle.std.specs.List.{AllByRecursion}
 use Rattle.std.specs.Prelude.{IfSome, OnOk}
 use Rattle.std.proofs.Common.{subst, sym}
@@ -20,12 +20,14 @@ abbrev heard : {E : Type 0} → Conversion E × Option (List ℕ) → ℕ → Li
 heard old number line said new = Hears old said new
 
 stays_there : {E : Type 0} (old new : Conversion E × Option (List ℕ)) → new ≡ old → GoesOnHearing [] old new
-stays_there old new same = subst (GoesOnHearing [] old) (sym same) (refl, λ _. goes_nowhere old)
+stays_there old new same = subst (GoesOnHearing [] old) (sym same) (λ awaits. (awaits, goes_nowhere old))
 
 hears_both : {E : Type 0} (first second : List Said) (old mid new : Conversion E × Option (List ℕ)) → GoesOnHearing first old mid
     → GoesOnHearing second mid new → GoesOnHearing (first ++ second) old new
-hears_both first second old mid new (one, hears) (other, then) =
-    (other ∙ one, λ more. goes_on first second old mid new (hears more) (then (one ∙ more)))
+hears_both first second old mid new hears then = λ awaits.
+    let (mid_awaits, first_goes) = hears awaits in
+    let (new_awaits, second_goes) = then mid_awaits in
+    (new_awaits, goes_on first second old mid new first_goes second_goes)
 
 line_is : {E : Type 0} (old new : Conversion E × Option (List ℕ)) (number : ℕ) (line : List ℕ) (said : Option Said)
     → HearsLine heard old number line said new → IsNoOther said × GoesOnHearing (one_said said) old new
@@ -55,7 +57,7 @@ pub converts : {E : Type 0} (options : Options) (old new : Conversion E) (log st
     → ((start : Option (List ℕ)) (said : List Said) → IsUnderWay start said (new, bytes) → WritesTrace new.options said start after)
     → Converts options log start after
 converts options old new log start bytes after begins (lines, are, hears) writes =
-    let goes = (lines_are (old, start) (new, bytes) 1 lines hears).1.1 begins.closed in (
+    let goes = ((lines_are (old, start) (new, bytes) 1 lines hears).1 begins.awaits).1 in (
       lines,
       are,
       subst (λ (its : Options). WritesTrace its (said_by lines) start after) (goes.options ∙ begins.options_are)

@@ -1,11 +1,12 @@
 -- How far a conversion has come, with the bytes that its output holds.
-use Rattle.std.specs.Prelude.{◌≡◌, ℕ, Bool, true, false, List, [], ◌∷◌, ◌++◌, Option, None}
+use Rattle.std.specs.Prelude.{◌≡◌, ℕ, Bool, true, List, [], ◌∷◌, ◌++◌, Option, None}
 use Rattle.std.specs.Option.{is_some}
 use Rattle.ms_trace.specs.declared.trace.Command.{Command}
 use Rattle.jvm_log.specs.declared.event.Said.{Said}
 use Rattle.jvm_log.specs.Following.{Follows, HandsOut}
+use Rattle.jvm_log.specs.Held.{IsAwaiting}
 use Rattle.jvm_log.specs.Known.{Known, known_in, waits}
-use Rattle.jvm_log.specs.Waits.{is_closed}
+use Rattle.jvm_log.specs.declared.held.Held.{Held}
 use Rattle.metalog.specs.Release.{IsOfJdk17}
 use Rattle.metalog.specs.Trace.{AreGiven, OpensFree, WritesLines, asks_reports, commands_of}
 use Rattle.metalog.specs.declared.conversion.Conversion.{Conversion}
@@ -37,16 +38,19 @@ pub record HandsOn {E : Type 0} (command : Command) (old new : Conversion E × O
   pub comes : (start : Option (List ℕ)) (said : List Said) (known : Known) → HandsOut (command ∷ []) known (known_in old.0.machine)
       → HasCome start said known old → IsUnderWay start said new
 
+-- The lines that the machine holds back.
+abbrev pub held_in : {E : Type 0} → Conversion E → Held
+held_in conversion = (known_in conversion.machine).held
+
 -- With these options nothing was heard, on whatever output.
 pub record Begins {E : Type 0} (options : Options) (conversion : Conversion E) : Type 0 where
   pub options_are : conversion.options ≡ options
-  pub closed : is_closed conversion.machine ≡ false
+  pub awaits : IsAwaiting (held_in conversion)
   pub comes : (start : Option (List ℕ)) → IsUnderWay start [] (conversion, start)
 
--- More is heard only until the log is over.
+-- More is heard only until the log is over, and once all that may go has gone.
 abbrev pub GoesOnHearing : {E : Type 0} → List Said → Conversion E × Option (List ℕ) → Conversion E × Option (List ℕ) → Type 0
-GoesOnHearing more old new =
-    (is_closed new.0.machine ≡ is_closed old.0.machine) × (is_closed old.0.machine ≡ false → GoesOn more old new)
+GoesOnHearing more old new = IsAwaiting (held_in old.0) → IsAwaiting (held_in new.0) × GoesOn more old new
 
 -- A line is heard: it shows no other release, and the trace goes on.
 abbrev pub Hears : {E : Type 0} → Conversion E × Option (List ℕ) → Said → Conversion E × Option (List ℕ) → Type 0

@@ -5,10 +5,11 @@
 //! Kept true: what went out and the text are lines of commands, after which the others come.
 ghost use Rattle.std.specs.Prelude.{◌≡◌, Option, List, [], true, ℕ, IfOk, OnOk};
 ghost use Rattle.jvm_log.specs.declared.event.Said.{Said as SaidOf};
+ghost use Rattle.jvm_log.specs.Held.{none_may_go};
 ghost use Rattle.jvm_log.specs.Known.{known_in, waits};
 ghost use Rattle.jvm_log.specs.Waits.{is_closed};
 ghost use Rattle.metalog.specs.Trace.{WritesTrace, last_report};
-ghost use Rattle.metalog.specs.UnderWay.{Begins, GoesOn, HandsOn, HasEnded, IsUnderWay};
+ghost use Rattle.metalog.specs.UnderWay.{Begins, GoesOn, HandsOn, HasEnded, IsUnderWay, held_in};
 
 use crate::failure::Failure;
 use crate::joining::join;
@@ -113,6 +114,7 @@ impl<'a, E: Write> Conversion<'a, E> {
         ensures comes { OnOk result (GoesOn [] (self.old, W.contents output.old) (self.new, W.contents output.new)) }
         ensures all { OnOk result (is_closed self.old.machine ≡ true → waits (known_in self.new.machine) ≡ []) }
         ensures closed { OnOk result (is_closed self.new.machine ≡ is_closed self.old.machine) }
+        ensures stops { OnOk result (none_may_go (held_in self.new).entries.items ≡ true) }
     {
         for _given in 0..self.machine.held_back() {
             let Some(line) = self.machine.next_line() else {

@@ -3,7 +3,8 @@ use Rattle.std.proofs.Common.{◌≡◌, ◌∙◌, [], ◌∷◌, ap, arith, le
 use Rattle.jvm_log.specs.declared.machine.Machine.{Machine}
 use Rattle.jvm_log.specs.Known.{known_in, waits}
 use Rattle.jvm_log.specs.Waits.{is_closed}
-use Rattle.jvm_log.proofs.FollowingLemmas.{gives_first}
+use Rattle.jvm_log.proofs.FollowingLemmas.{fewer_held, gives_first}
+use Rattle.metalog.specs.UnderWay.{held_in}
 use Rattle.metalog.proofs.UnderWayLemmas.{gives, goes_on, stays}
 use Rattle.metalog.proofs.conversion.Conversion.hand_on.Goals as goal
 
@@ -15,12 +16,21 @@ loop-given-preserved g c =
     let on = c.in_ok-hand_on_line.ensures in
     let gave = c.in-Some.ensures.gives in
     let same : length (waits (known_in c.hand_on_line.new.self.machine)) ≡ length (waits (known_in c.next_line.new.self)) =
-    ap (λ (m : Machine). length (waits (known_in m))) on.machine in record {
+    ap (λ (m : Machine). length (waits (known_in m))) on.machine in
+    let left : length (held_in c.hand_on_line.new.self).entries.items ≡ length (known_in c.next_line.new.self).held.entries.items =
+    ap (λ (m : Machine). length (known_in m).held.entries.items) on.machine in record {
       comes =
           goes_on [] [] (c.args.self.now, start) (c.loop-given.self, before) (c.hand_on_line.new.self, after) c.loop-given.invariant.comes
           (gives c.loop-given.self (record c.loop-given.self { machine = c.next_line.new.self }) (c.hand_on_line.new.self, after) before
           c.in-Some.line.command gave refl refl refl on);
       closed = ap (λ (m : Machine). is_closed m) on.machine ∙ c.next_line.ensures.closed ∙ c.loop-given.invariant.closed;
+      held =
+          omega (
+            arith,
+            left,
+            fewer_held c.in-Some.line.command (known_in c.loop-given.self.machine) (known_in c.next_line.new.self) gave,
+            c.loop-given.invariant.held,
+          );
       fewer =
           omega (
             arith,

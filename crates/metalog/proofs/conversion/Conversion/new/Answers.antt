@@ -1,6 +1,7 @@
 -- A trace begins.
-use Rattle.std.proofs.Common.{Bool, refl, subst}
+use Rattle.std.proofs.Common.{Bool, ap, refl, subst}
 use Rattle.jvm_log.specs.Following.{KnowsNothing}
+use Rattle.jvm_log.specs.Held.{none_may_go}
 use Rattle.jvm_log.specs.Known.{known_in}
 use Rattle.metalog.proofs.UnderWayLemmas.{begins}
 use Rattle.metalog.proofs.conversion.Conversion.new.Goals as goal
@@ -8,7 +9,7 @@ use Rattle.metalog.proofs.conversion.Conversion.new.Goals as goal
 pub returns : goal.returns
 returns g c = record {
   options_are = refl;
-  closed = c.in_ok-new.ensures.closed;
+  awaits = record { more = c.in_ok-new.ensures.closed; first = ap none_may_go c.in_ok-new.ensures.lines };
   comes = λ start.
       begins start _
       (subst (λ (reports : Bool). KnowsNothing reports (known_in c.in_ok-new.field-0)) c.are_after_collections.ensures c.in_ok-new.ensures)
