@@ -32,21 +32,12 @@ returns g c =
     ok_map c.hand_on.result _ _
     (λ (on, (same, stops)). (
       other,
-<<<<<<< HEAD
-      (
-        same ∙ ap (λ (m : Machine). is_closed m) (sym machine) ∙ its.lines.closed,
-        λ more. goes_on (c.args.said ∷ []) [] (c.args.self.now, bytes) (c.learn.new.self, bytes)
-            (c.hand_on.new.self, g.W.Write.contents c.hand_on.new.output)
-            (takes_in c.args.self.now c.learn.new.self bytes c.args.said
-            (subst (λ (m : Machine). Learns c.args.said (known_in c.args.self.now.machine) (known_in m)) machine (learns more))
-=======
       λ awaits. (
         record { more = same ∙ ap (λ (m : Machine). is_closed m) (sym machine) ∙ its.lines.closed ∙ awaits.more; first = stops },
         goes_on (c.args.said ∷ []) [] (c.args.self.now, bytes) (c.learn.new.self, bytes)
             (c.hand_on.new.self, g.W.Write.contents c.hand_on.new.output)
             (takes_in c.args.self.now c.learn.new.self bytes c.args.said
             (subst (λ (m : Machine). Learns c.args.said (known_in c.args.self.now.machine) (known_in m)) machine (learns awaits))
->>>>>>> 8228a0d77444cd09d7834db72fe972855c4ec8d7
             (subst (UsesNames c.args.self.now.machine) machine its.names)
             (ap (λ (its : Conversion g.row.E.Denot). its.options) c.in_ok-learn.ensures
             ∙ ap (λ (its : Conversion g.row.E.Denot). its.options) c.in_ok-warn.ensures)
