@@ -3,13 +3,12 @@
 use crate::pools::SETTINGS;
 use crate::row::{Answer, Row, gave, line, mark, tell};
 use crate::systems::filled::{FREED, HIDDEN, filled_totals, tell_totals};
-use ms_answers::LoaderDetails;
+use ms_answers::{Detail, LoaderDetails};
 use ms_base::{Refusal, Reply, Settings};
 use ms_loaders::{Answer as Answered, Replies, Totals};
 use ms_pool::RootMap;
 use ms_report::{
-    Detail, Kinds, Refusals, Usages, full_text, lines_detailed, map_text, sum_kinds, tally, text,
-    weigh,
+    Kinds, Refusals, Usages, full_text, lines_detailed, map_text, sum_kinds, tally, text, weigh,
 };
 use std::alloc::{AllocError, Global};
 use std::io;
