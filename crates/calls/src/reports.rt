@@ -3,7 +3,7 @@
 use crate::pools::SETTINGS;
 use crate::row::{Answer, Row, gave, line, mark, tell};
 use crate::systems::filled::{FREED, HIDDEN, filled_totals, tell_totals};
-use ms_answers::{Detail, LoaderDetails};
+use ms_answers::{LoaderDetails, Verbosity};
 use ms_base::{Refusal, Reply, Settings};
 use ms_loaders::{Answer as Answered, Replies, Totals};
 use ms_pool::RootMap;
@@ -212,7 +212,7 @@ impl Row for Replying {
                 self.alloc,
                 &self.replies,
                 true,
-                Detail::Full,
+                Verbosity::Full,
                 &Settings::DEFAULT,
             ),
         )

@@ -1,6 +1,6 @@
 //! The row of a replay: the same trace, once more where something was wanted.
 use crate::row::{say, tell};
-use ms_answers::Detail;
+use ms_answers::Verbosity;
 use ms_base::{Policy, Refusal, Reply, Settings};
 use ms_loaders::{Answer, Replies, Totals};
 use ms_run::{NoGate, replay_detailed};
@@ -57,7 +57,7 @@ fn tell_call<R: Threads + Wait + Sync>(
     trace: &Trace,
     settings: Settings,
 ) -> bool {
-    match replay_detailed(waits, rt.alloc(), trace, settings, Detail::Full, &NoGate) {
+    match replay_detailed(waits, rt.alloc(), trace, settings, Verbosity::Full, &NoGate) {
         Ok(replies) => {
             let is_wanted = tell_replies(rt, word, settings.workers == 1, &replies);
             drop(replies);

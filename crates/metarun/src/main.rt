@@ -1,28 +1,9 @@
 //! `metarun` runs a trace of class loader operations: one reply a line, and a report of the
-//! metaspace where one is asked for; or one document with all of it.
-//!
-//!     words ──── options ────────┐
-//!     standard input ── devices ── ms_trace ── ms_run ─┬─ ms_report ─┬─ devices ── standard output
-//!                         read      parse      replay  ├── ms_json ──┤   write
-//!                                                      └── ms_html ──┘
-//!
-//! Kept true: what goes out is the text, or the document, of the answers to the trace that came in,
-//! those of a run of the machine with one worker, or the page of such a run. The command line is
-//! judged before anything is read, and the whole trace is read and parsed before anything runs.
-//! Stands on `ms_trace`, `ms_run`, `ms_report`, `ms_json` and `ms_html`.
+//! metaspace where one is asked for; or one document with all of it. The session is that of
+//! `ms_session`, over the command line and the standard devices.
 #![tactic(auto)]
 
-mod asked;
-mod charting;
-mod devices;
-mod failure;
-mod naming;
-mod options;
-mod session;
-mod start;
-mod watching;
-
-use crate::start::start;
+pub use ms_session::{Form, Options, Refused, options_of, session, start};
 use std::env;
 use std::io::{self, ErrorKind};
 use std::process::ExitCode;

@@ -6,15 +6,6 @@ use ms_arena::ArenaTotals;
 use ms_base::Kind;
 use ms_pool::RootMap;
 
-/// How much a report tells. This project's choice.
-#[derive(Clone, Copy, Debug, PartialEq, Eq)]
-pub enum Detail {
-    /// The fixed text.
-    Basic,
-    /// The fixed text, and then the parts Settings, Usage, Kinds, Loaders, Refused, Peaks and Map.
-    Full,
-}
-
 /// One loader's sums, over each of its arenas. After HotSpot's VM.metaspace, with this project's
 /// numbers.
 #[derive(Clone, Copy, Debug, PartialEq, Eq)]

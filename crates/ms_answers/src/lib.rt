@@ -12,8 +12,10 @@ mod details;
 mod peaks;
 mod replies;
 mod totals;
+mod verbosity;
 
-pub use details::{Detail, Details, LoaderDetails};
+pub use details::{Details, LoaderDetails};
 pub use peaks::Peaks;
 pub use replies::{Answer, AnswerSink, Replies};
 pub use totals::{LoaderRow, SpaceTotals, Totals};
+pub use verbosity::Verbosity;

@@ -10,8 +10,8 @@ use Rattle.std.specs.declared.alloc.Global.{Global}
 use Rattle.ms_base.specs.ReplyText.{reply_line, reply_text}
 use Rattle.ms_base.specs.declared.settings.Settings.{Settings}
 use Rattle.ms_base.specs.declared.step.Reply.{Reply}
-use Rattle.ms_answers.specs.declared.details.Detail.{Detail}
-use Rattle.ms_answers.specs.declared.details.Detail.TheVariants.{Basic}
+use Rattle.ms_answers.specs.declared.verbosity.Verbosity.{Verbosity}
+use Rattle.ms_answers.specs.declared.verbosity.Verbosity.TheVariants.{Basic}
 use Rattle.ms_answers.specs.declared.totals.Totals.{Totals}
 use Rattle.ms_answers.specs.declared.replies.Answer.{Answer}
 use Rattle.ms_report.specs.AnswerText.{AnswerTextView, Tells, no_answer}
@@ -26,26 +26,26 @@ refusals_more before reply =
     ap by_name (fun_ext (λ name. sum_by_push (λ (r : Reply). cond (is_refused_as name r) 1 0) before reply))
 
 -- The lines of later answers, with one more.
-text_more : (addresses : Bool) (detail : Detail) (settings : Settings) (before : List Reply) (answers : List Answer)
+text_more : (addresses : Bool) (verbosity : Verbosity) (settings : Settings) (before : List Reply) (answers : List Answer)
     (answer : Answer)
-    → later_text addresses detail settings before (answers ++ answer ∷ [])
-    ≡ later_text addresses detail settings before answers
-    ++ answer_text addresses detail settings (refusals_of (before ++ replies_in answers)) answer
-text_more addresses detail settings before [] answer =
-    append-nil (answer_text addresses detail settings (refusals_of before) answer)
-    ∙ ap (λ (b : List Reply). answer_text addresses detail settings (refusals_of b) answer) (sym (append-nil before))
-text_more addresses detail settings before (one ∷ answers) answer =
-    ap (λ (t : List ℕ). first ++ t) (text_more addresses detail settings (before ++ one.reply ∷ []) answers answer)
-    ∙ ap (λ (b : List Reply). first ++ (others ++ answer_text addresses detail settings (refusals_of b) answer))
+    → later_text addresses verbosity settings before (answers ++ answer ∷ [])
+    ≡ later_text addresses verbosity settings before answers
+    ++ answer_text addresses verbosity settings (refusals_of (before ++ replies_in answers)) answer
+text_more addresses verbosity settings before [] answer =
+    append-nil (answer_text addresses verbosity settings (refusals_of before) answer)
+    ∙ ap (λ (b : List Reply). answer_text addresses verbosity settings (refusals_of b) answer) (sym (append-nil before))
+text_more addresses verbosity settings before (one ∷ answers) answer =
+    ap (λ (t : List ℕ). first ++ t) (text_more addresses verbosity settings (before ++ one.reply ∷ []) answers answer)
+    ∙ ap (λ (b : List Reply). first ++ (others ++ answer_text addresses verbosity settings (refusals_of b) answer))
     (append_assoc before (one.reply ∷ []) (replies_in answers))
     ∙ sym (append_assoc first others
-    (answer_text addresses detail settings (refusals_of (before ++ replies_in (one ∷ answers))) answer))
+    (answer_text addresses verbosity settings (refusals_of (before ++ replies_in (one ∷ answers))) answer))
   where
     first : List ℕ
-    first = answer_text addresses detail settings (refusals_of before) one
+    first = answer_text addresses verbosity settings (refusals_of before) one
 
     others : List ℕ
-    others = later_text addresses detail settings (before ++ one.reply ∷ []) answers
+    others = later_text addresses verbosity settings (before ++ one.reply ∷ []) answers
 
 -- Basic reports are the same whatever the settings are.
 pub basic_alike : (addresses : Bool) (one other : Settings) (answers : List Answer)
@@ -66,40 +66,40 @@ basic_alike addresses one other = later_alike []
         (later_alike (before ++ answer.reply ∷ []) answers)
 
 -- A text of no answer tells none, and one that gains an answer's text tells it too.
-pub tells_none : (addresses : Bool) (detail : Detail) (settings : Settings)
-    → Tells (no_answer addresses detail settings) (no_answer addresses detail settings) []
-tells_none addresses detail settings = record {
+pub tells_none : (addresses : Bool) (verbosity : Verbosity) (settings : Settings)
+    → Tells (no_answer addresses verbosity settings) (no_answer addresses verbosity settings) []
+tells_none addresses verbosity settings = record {
   text = refl;
   refusals = refl;
   addresses = refl;
-  detail = refl;
+  verbosity = refl;
   settings = refl;
 }
 
 pub tells_more : (first old : AnswerTextView) (before : List Answer) (answer : Answer) (text : List ℕ)
     (refusals : Refusals) → Tells first old before
-    → text ≡ old.text ++ answer_text old.addresses old.detail old.settings old.refusals answer
+    → text ≡ old.text ++ answer_text old.addresses old.verbosity old.settings old.refusals answer
     → refusals ≡ with_reply old.refusals answer.reply
     → Tells first (record old { text = text; refusals = refusals }) (before ++ answer ∷ [])
 tells_more first old before answer text refusals its adds counts = record {
   text = adds
-      ∙ ap (λ (t : List ℕ). t ++ answer_text old.addresses old.detail old.settings old.refusals answer) its.text
-      ∙ ap (λ (a : Bool). whole ++ answer_text a old.detail old.settings old.refusals answer) its.addresses
-      ∙ ap (λ (d : Detail). whole ++ answer_text first.addresses d old.settings old.refusals answer) its.detail
-      ∙ ap (λ (s : Settings). whole ++ answer_text first.addresses first.detail s old.refusals answer) its.settings
-      ∙ ap (λ (r : Refusals). whole ++ answer_text first.addresses first.detail first.settings r answer) its.refusals
-      ∙ sym (text_more first.addresses first.detail first.settings [] before answer);
+      ∙ ap (λ (t : List ℕ). t ++ answer_text old.addresses old.verbosity old.settings old.refusals answer) its.text
+      ∙ ap (λ (a : Bool). whole ++ answer_text a old.verbosity old.settings old.refusals answer) its.addresses
+      ∙ ap (λ (d : Verbosity). whole ++ answer_text first.addresses d old.settings old.refusals answer) its.verbosity
+      ∙ ap (λ (s : Settings). whole ++ answer_text first.addresses first.verbosity s old.refusals answer) its.settings
+      ∙ ap (λ (r : Refusals). whole ++ answer_text first.addresses first.verbosity first.settings r answer) its.refusals
+      ∙ sym (text_more first.addresses first.verbosity first.settings [] before answer);
   refusals = counts
       ∙ ap (λ (r : Refusals). with_reply r answer.reply) its.refusals
       ∙ sym (refusals_more (replies_in before) answer.reply)
       ∙ ap refusals_of (sym (map-append (λ (a : Answer). a.reply) before (answer ∷ [])));
   addresses = its.addresses;
-  detail = its.detail;
+  verbosity = its.verbosity;
   settings = its.settings;
 }
   where
     whole : List ℕ
-    whole = answers_text first.addresses first.detail first.settings before
+    whole = answers_text first.addresses first.verbosity first.settings before
 
 -- Fewer than a bound are fewer than a greater one.
 pub few_below : (bound greater : ℕ) (counts : Refusals) → AreFew bound counts → bound ≤ greater → AreFew greater counts
@@ -153,15 +153,15 @@ some_byte a b end rest byte = omega (
 )
 
 -- So no more answers are counted than the text has bytes.
-pub few_still : (text whole : List ℕ) (addresses : Bool) (detail : Detail) (settings : Settings) (refusals counted : Refusals)
+pub few_still : (text whole : List ℕ) (addresses : Bool) (verbosity : Verbosity) (settings : Settings) (refusals counted : Refusals)
     (answer : Answer) → AreFew (length text + 1) refusals
-    → whole ≡ text ++ answer_text addresses detail settings refusals answer
+    → whole ≡ text ++ answer_text addresses verbosity settings refusals answer
     → counted ≡ with_reply refusals answer.reply → AreFew (length whole + 1) counted
-few_still text whole addresses detail settings refusals counted answer few adds counts =
-    let line : List ℕ = answer_text addresses detail settings refusals answer in
+few_still text whole addresses verbosity settings refusals counted answer few adds counts =
+    let line : List ℕ = answer_text addresses verbosity settings refusals answer in
     let some : 1 ≤ length line =
     some_byte (decimal answer.line) (reply_text addresses answer.reply) (codes "\n")
-    (report_after detail settings refusals answer.report) 32 in
+    (report_after verbosity settings refusals answer.report) 32 in
     let longer : length text + 1 + 1 ≤ length whole + 1 = omega (arith, ap length adds, length-append text line, some) in
     rw counts (few_below (length text + 1 + 1) (length whole + 1) (with_reply refusals answer.reply)
     (counts_more (length text + 1) refusals answer.reply few) longer)

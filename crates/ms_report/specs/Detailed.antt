@@ -5,8 +5,8 @@ use Rattle.std.specs.Fmt.{decimal}
 use Rattle.ms_base.specs.declared.settings.Settings.{Settings}
 use Rattle.ms_base.specs.Totals.{Sums}
 use Rattle.ms_answers.specs.Details.{DetailSums}
-use Rattle.ms_answers.specs.declared.details.Detail.{Detail}
-use Rattle.ms_answers.specs.declared.details.Detail.TheVariants.{Basic, Full}
+use Rattle.ms_answers.specs.declared.verbosity.Verbosity.{Verbosity}
+use Rattle.ms_answers.specs.declared.verbosity.Verbosity.TheVariants.{Basic, Full}
 use Rattle.ms_report.specs.declared.usage.Amount.{Amount}
 use Rattle.ms_report.specs.declared.usage.Usage.{Usage}
 use Rattle.ms_report.specs.declared.usage.Usages.{Usages}
@@ -91,7 +91,7 @@ full_text settings refusals sums details peaks =
     ++ peaks_part settings peaks
     ++ maps_part details
 
--- A report with as much detail as is asked for.
-abbrev pub detailed_text : Detail → Settings → Refusals → Sums → Option DetailSums → Option Peaks → List ℕ
+-- A report of the verbosity asked for.
+abbrev pub detailed_text : Verbosity → Settings → Refusals → Sums → Option DetailSums → Option Peaks → List ℕ
 detailed_text Basic settings refusals sums details peaks = report_text sums
 detailed_text Full settings refusals sums details peaks = full_text settings refusals sums details peaks

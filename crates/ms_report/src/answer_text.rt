@@ -14,7 +14,7 @@ ghost use Rattle.ms_report.specs.ReplyLines.{answers_text};
 use crate::done_line::DoneLine;
 use crate::refused::{NONE, Refusals, count};
 use crate::reply_lines::push_answer;
-use ms_answers::{Answer, AnswerSink, Detail, Replies};
+use ms_answers::{Answer, AnswerSink, Replies, Verbosity};
 use ms_base::Settings;
 use std::alloc::{AllocError, Global};
 use std::marker::Model;
@@ -31,8 +31,8 @@ pub struct AnswerText {
     refusals: Refusals,
     // Whether a line tells where a block starts.
     addresses: bool,
-    // With how much detail reports are told.
-    detail: Detail,
+    // How much reports tell.
+    verbosity: Verbosity,
     // The settings of the run.
     settings: Settings,
 }
@@ -48,7 +48,7 @@ impl Model for AnswerText {
       text = string_bytes a.text;
       refusals = a.refusals;
       addresses = a.addresses;
-      detail = a.detail;
+      verbosity = a.verbosity;
       settings = a.settings;
     } };
 
@@ -58,10 +58,14 @@ impl Model for AnswerText {
 impl AnswerText {
     /// Makes the text of no answer, in the room of a text that is done with, which is emptied.
     /// Where a block starts, a word number, is written only if addresses are asked for, and reports
-    /// have as much detail as is asked for; the settings are those of the run. Takes no
-    /// memory yet.
-    pub fn new(mut room: String, addresses: bool, detail: Detail, settings: Settings) -> AnswerText
-        ensures { result ≡ no_answer addresses detail settings }
+    /// are of the verbosity asked for; the settings are those of the run. Takes no memory yet.
+    pub fn new(
+        mut room: String,
+        addresses: bool,
+        verbosity: Verbosity,
+        settings: Settings,
+    ) -> AnswerText
+        ensures { result ≡ no_answer addresses verbosity settings }
     {
         room.clear();
         AnswerText {
@@ -69,7 +73,7 @@ impl AnswerText {
             done: DoneLine::first(),
             refusals: NONE,
             addresses,
-            detail,
+            verbosity,
             settings,
         }
     }
@@ -82,13 +86,13 @@ impl AnswerText {
         ensures told { OnOk result ((first : AnswerTextView) (before : List AnswerOf) → Tells first self.old before
             → Tells first self.new (before ++ answer.now ∷ [])) }
         ensures emptied { OnErr result
-            (self.new ≡ no_answer self.old.addresses self.old.detail self.old.settings) }
+            (self.new ≡ no_answer self.old.addresses self.old.verbosity self.old.settings) }
     {
         let pushed = push_answer(
             &mut self.text,
             &mut self.done,
             self.addresses,
-            self.detail,
+            self.verbosity,
             &self.settings,
             &self.refusals,
             answer,
@@ -129,7 +133,7 @@ impl AnswerSink for AnswerText {
 /// text; an error means that a growth was refused. This project's choice.
 pub fn lines(alloc: Global, replies: &Replies, addresses: bool) -> Result<String, AllocError>
     ensures { IfOk result (λ text. (settings : SettingsOf) → string_bytes text
-        ≡ answers_text addresses Detail.Basic settings replies.now.answers.items) }
+        ≡ answers_text addresses Verbosity.Basic settings replies.now.answers.items) }
 {
     basic_lines(alloc, replies, addresses, &Settings::DEFAULT)
 }
@@ -142,12 +146,12 @@ fn basic_lines(
     settings: &Settings,
 ) -> Result<String, AllocError>
     ensures { IfOk result (λ text. (any : SettingsOf) → string_bytes text
-        ≡ answers_text addresses Detail.Basic any replies.now.answers.items) }
+        ≡ answers_text addresses Verbosity.Basic any replies.now.answers.items) }
 {
-    lines_detailed(alloc, replies, addresses, Detail::Basic, settings)
+    lines_detailed(alloc, replies, addresses, Verbosity::Basic, settings)
 }
 
-/// Writes lines as `lines` does, with reports in as much detail as is asked for. The settings are
+/// Writes lines as `lines` does, with reports of the verbosity asked for. The settings are
 /// those of the run, which a full report has; the answers before it are those in which it counts
 /// refused lines. Takes memory for the text; an error means that a growth was refused. This
 /// project's choice.
@@ -155,13 +159,13 @@ pub fn lines_detailed(
     alloc: Global,
     replies: &Replies,
     addresses: bool,
-    detail: Detail,
+    verbosity: Verbosity,
     settings: &Settings,
 ) -> Result<String, AllocError>
     ensures { IfOk result (λ text. string_bytes text
-        ≡ answers_text addresses detail settings.now replies.now.answers.items) }
+        ≡ answers_text addresses verbosity settings.now replies.now.answers.items) }
 {
-    let mut text = AnswerText::new(String::new(alloc), addresses, detail, *settings);
+    let mut text = AnswerText::new(String::new(alloc), addresses, verbosity, *settings);
     for answer in &replies.answers {
         text.push(answer)?;
     }

@@ -31,7 +31,7 @@ use crate::sections::push_report;
 use crate::setup::push_settings;
 use crate::sizes::{push_pointed, push_sized};
 use crate::usage::{Amount, Usage, Usages, weigh};
-use ms_answers::{Detail, Details, Totals};
+use ms_answers::{Details, Totals, Verbosity};
 use ms_base::Settings;
 use std::alloc::{AllocError, Global};
 
@@ -60,21 +60,21 @@ pub fn full_text(
     Ok(text)
 }
 
-/// Appends a report with as much detail as is asked for.
+/// Appends a report of the verbosity asked for.
 pub(crate) fn push_detailed(
     text: &mut String,
-    detail: Detail,
+    verbosity: Verbosity,
     settings: &Settings,
     refusals: &Refusals,
     totals: &Totals,
 ) -> Result<(), AllocError>
     ensures { OnOk result (string_bytes text.new
-        ≡ string_bytes text.old ++ detailed_text detail settings.now refusals.now
+        ≡ string_bytes text.old ++ detailed_text verbosity settings.now refusals.now
         (sums_in totals.now) (told_in totals.now) totals.now.peaks) }
 {
-    match detail {
-        Detail::Basic => push_report(text, totals),
-        Detail::Full => push_full(text, settings, refusals, totals),
+    match verbosity {
+        Verbosity::Basic => push_report(text, totals),
+        Verbosity::Full => push_full(text, settings, refusals, totals),
     }
 }
 

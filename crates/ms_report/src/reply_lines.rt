@@ -15,7 +15,7 @@ use crate::detailed::push_detailed;
 use crate::done_line::DoneLine;
 use crate::line::push_cut;
 use crate::refused::Refusals;
-use ms_answers::{Answer, Detail};
+use ms_answers::{Answer, Verbosity};
 use ms_base::{Refusal, Reply, Settings};
 use std::alloc::AllocError;
 
@@ -25,18 +25,18 @@ pub(crate) fn push_answer(
     text: &mut String,
     done: &mut DoneLine,
     addresses: bool,
-    detail: Detail,
+    verbosity: Verbosity,
     settings: &Settings,
     refusals: &Refusals,
     answer: &Answer,
 ) -> Result<(), AllocError>
     ensures { OnOk result (string_bytes text.new
         ≡ string_bytes text.old
-        ++ answer_text addresses detail settings.now refusals.now answer.now) }
+        ++ answer_text addresses verbosity settings.now refusals.now answer.now) }
 {
     push_reply_line(text, done, addresses, answer.line, answer.reply)?;
     if let Some(totals) = &answer.report {
-        push_detailed(text, detail, settings, refusals, totals)?;
+        push_detailed(text, verbosity, settings, refusals, totals)?;
     }
     Ok(())
 }

@@ -13,7 +13,7 @@ use Rattle.ms_trace.specs.declared.trace.Command.TheVariants.{Step as Asks}
 use Rattle.ms_trace.specs.declared.trace.Line.{Line}
 use Rattle.ms_trace.specs.Steps.{step_of}
 use Rattle.ms_answers.specs.declared.replies.Answer.{Answer}
-use Rattle.ms_answers.specs.declared.details.Detail.{Detail}
+use Rattle.ms_answers.specs.declared.verbosity.Verbosity.{Verbosity}
 use Rattle.ms_run.specs.Counting.{HasTaken}
 use Rattle.ms_run.specs.Course.{Course, begun, on_to, passed}
 use Rattle.ms_run.specs.Peaks.{ArePeaksIfKept}
@@ -46,24 +46,24 @@ puts_more took done more before so_far after first_puts then_puts = λ first sai
     subst (took first after) (append_assoc said done more) (then_puts first (said ++ done) (first_puts first said put))
 
 -- No line is answered, and then one more.
-pub none_answered : {S : Type 0} (took : S → S → List Answer → Type 0) (detail : Detail) (run : Metered) (sink : S)
-    → Puts took (AreOfLines detail run [] run) sink sink
-none_answered took detail run sink = (
+pub none_answered : {S : Type 0} (took : S → S → List Answer → Type 0) (verbosity : Verbosity) (run : Metered) (sink : S)
+    → Puts took (AreOfLines verbosity run [] run) sink sink
+none_answered took verbosity run sink = (
   [],
   puts_none took sink,
-  (All-nil (IsDetailed detail), λ course taken. (course, (refl, refl), taken)),
+  (All-nil (IsDetailed verbosity), λ course taken. (course, (refl, refl), taken)),
 )
 
-pub one_more_answered : {S : Type 0} (took : S → S → List Answer → Type 0) (detail : Detail) (old mid new : Metered)
+pub one_more_answered : {S : Type 0} (took : S → S → List Answer → Type 0) (verbosity : Verbosity) (old mid new : Metered)
     (lines : List Line) (at : ℕ) (line : Line) (before so_far whole : S)
-    → Puts took (AreOfLines detail old (take at lines) mid) before so_far → at < length lines
-    → Puts took (AreOfLines detail mid (get_or lines at line ∷ []) new) so_far whole
-    → Puts took (AreOfLines detail old (take (at + 1) lines) new) before whole
-one_more_answered took detail old mid new lines at line before so_far whole told more then = (
+    → Puts took (AreOfLines verbosity old (take at lines) mid) before so_far → at < length lines
+    → Puts took (AreOfLines verbosity mid (get_or lines at line ∷ []) new) so_far whole
+    → Puts took (AreOfLines verbosity old (take (at + 1) lines) new) before whole
+one_more_answered took verbosity old mid new lines at line before so_far whole told more then = (
   told.0 ++ then.0,
   puts_more took told.0 then.0 before so_far whole told.1 then.1,
   (
-    All-append (IsDetailed detail) told.0 then.0 told.2.0 then.2.0,
+    All-append (IsDetailed verbosity) told.0 then.0 told.2.0 then.2.0,
     λ course taken.
         let one = told.2.1 course taken in
         let other = then.2.1 one.0 one.2 in (
@@ -77,19 +77,19 @@ one_more_answered took detail old mid new lines at line before so_far whole told
 )
 
 -- A line that asks a step is answered: the course goes on to the state after it.
-pub step_answered : {S : Type 0} (took : S → S → List Answer → Type 0) (detail : Detail) (old new : Metered) (line : Line)
+pub step_answered : {S : Type 0} (took : S → S → List Answer → Type 0) (verbosity : Verbosity) (old new : Metered) (line : Line)
     (step : Step) (answer : Answer) (sink whole : S)
     → line.command ≡ Asks step → PutsAll took (answer ∷ []) sink whole → answer.line ≡ line.number
     → answer.report ≡ None → Transition old.system step answer.reply new.system
     → ((states : List Machine) → ArePeaksIfKept states old.peaks → ArePeaksIfKept (new.system ∷ states) new.peaks)
-    → Puts took (IsOfLine detail old line answer.reply new) sink whole
-step_answered took detail old new line step answer sink whole asks puts number none told raised = (
+    → Puts took (IsOfLine verbosity old line answer.reply new) sink whole
+step_answered took verbosity old new line step answer sink whole asks puts number none told raised = (
   answer ∷ [],
   puts,
   (
     answer,
     refl,
-    plain detail answer none,
+    plain verbosity answer none,
     λ course taken. (
       refl,
       on_to new.system course,
@@ -109,10 +109,10 @@ step_answered took detail old new line step answer sink whole asks puts number n
 )
 
 -- A line that asks none is answered, and the course stays.
-pub end_answered : {S : Type 0} (took : S → S → List Answer → Type 0) (detail : Detail) (run : Metered) (line : Line)
-    (sink whole : S) → step_of line.command ≡ None → Puts took (IsOfEnd detail run line) sink whole
-    → Puts took (IsOfLine detail run line Done run) sink whole
-end_answered took detail run line sink whole asks told = (
+pub end_answered : {S : Type 0} (took : S → S → List Answer → Type 0) (verbosity : Verbosity) (run : Metered) (line : Line)
+    (sink whole : S) → step_of line.command ≡ None → Puts took (IsOfEnd verbosity run line) sink whole
+    → Puts took (IsOfLine verbosity run line Done run) sink whole
+end_answered took verbosity run line sink whole asks told = (
   told.0,
   told.1,
   (
@@ -126,14 +126,14 @@ end_answered took detail run line sink whole asks told = (
 )
 
 -- The one answer to a line is the list of its answers.
-pub line_answered : {S : Type 0} (took : S → S → List Answer → Type 0) (detail : Detail) (old new : Metered) (line : Line)
-    (reply : Reply) (sink whole : S) → Puts took (IsOfLine detail old line reply new) sink whole
-    → Puts took (AreOfLines detail old (line ∷ []) new) sink whole
-line_answered took detail old new line reply sink whole told = (
+pub line_answered : {S : Type 0} (took : S → S → List Answer → Type 0) (verbosity : Verbosity) (old new : Metered) (line : Line)
+    (reply : Reply) (sink whole : S) → Puts took (IsOfLine verbosity old line reply new) sink whole
+    → Puts took (AreOfLines verbosity old (line ∷ []) new) sink whole
+line_answered took verbosity old new line reply sink whole told = (
   told.2.0 ∷ [],
   subst (λ (l : List Answer). PutsAll took l sink whole) told.2.1 told.1,
   (
-    All-from_recursion (IsDetailed detail) (told.2.0 ∷ []) (told.2.2, tt),
+    All-from_recursion (IsDetailed verbosity) (told.2.0 ∷ []) (told.2.2, tt),
     λ course taken. let its = told.2.3 course taken in (its.1, its.2, its.3),
   ),
 )
@@ -152,10 +152,10 @@ counted_if_kept true kept is = refl
 counted_if_kept false kept is = is
 
 -- All lines are answered from the machine on that has nothing.
-pub all_answered : {S : Type 0} (took : S → S → List Answer → Type 0) (limits : Limits) (detail : Detail)
+pub all_answered : {S : Type 0} (took : S → S → List Answer → Type 0) (limits : Limits) (verbosity : Verbosity)
     (lines : List Line) (old new : Metered) (sink whole : S) → HasTaken (begun (empty_machine limits)) old
-    → Puts took (AreOfLines detail old lines new) sink whole → Puts took (AreOfRun limits detail lines) sink whole
-all_answered took limits detail lines old new sink whole taken told =
+    → Puts took (AreOfLines verbosity old lines new) sink whole → Puts took (AreOfRun limits verbosity lines) sink whole
+all_answered took limits verbosity lines old new sink whole taken told =
     let ran = told.2.1 (begun (empty_machine limits)) taken in
     (told.0, told.1, (ran.0, ran.1, told.2.0))
 

@@ -8,13 +8,13 @@ use Rattle.ms_base.specs.State.{Limits, Machine, empty_machine, limits_of}
 use Rattle.ms_base.specs.declared.settings.Settings.{Settings}
 use Rattle.ms_base.specs.declared.step.Reply.{Reply}
 use Rattle.ms_trace.specs.declared.trace.Line.{Line}
-use Rattle.ms_answers.specs.declared.details.Detail.TheVariants.{Full}
+use Rattle.ms_answers.specs.declared.verbosity.Verbosity.TheVariants.{Full}
 use Rattle.ms_answers.specs.declared.replies.Answer.{Answer}
 use Rattle.ms_answers.specs.declared.totals.Totals.{Totals}
 use Rattle.ms_run.specs.Counting.{HasTaken}
 use Rattle.ms_run.specs.Course.{Course, begun}
 use Rattle.ms_run.specs.Observing.{AreSeen, IsObserved, LastSightIsTheMachine, PutsAndSees, WatchesLines, last_sight}
-use Rattle.ms_run.specs.Replay.{Answers, AreOf, HasDetail, IsDetailed}
+use Rattle.ms_run.specs.Replay.{Answers, AreOf, HasVerbosity, IsDetailed}
 use Rattle.ms_run.specs.Seeing.{Sight, SeesAll, sight_of}
 use Rattle.ms_run.specs.Sink.{AreToTrace, IsOfLine, Puts, PutsAll}
 use Rattle.ms_run.specs.declared.alone.Metered.{Metered}
@@ -122,7 +122,7 @@ pub all_observed : {S O : Type 0} (took : S → S → List Answer → Type 0) (s
     (limits : Limits) (lines lent : List Line) (old new : Metered) (totals : Totals) (sink sunk : S) (watch watched : O)
     → lent ≡ lines → HasTaken (begun (empty_machine limits)) old
     → PutsAndSees took saw (WatchesLines old lent new) sink sunk watch watched
-    → ((course : Course) → HasTaken course new → AreOf course totals) → HasDetail Full totals
+    → ((course : Course) → HasTaken course new → AreOf course totals) → HasVerbosity Full totals
     → PutsAndSees took saw (λ answers sights. IsObserved limits lines answers sights totals) sink sunk watch watched
 all_observed took saw limits lines lent old new totals sink sunk watch watched same taken told are full =
     let ran = told.4.1 (begun (empty_machine limits)) taken in (

@@ -6,7 +6,7 @@ use Rattle.ms_base.specs.Names.{named}
 use Rattle.ms_base.specs.State.{LoaderState}
 use Rattle.ms_base.specs.Good.{IsGood}
 use Rattle.ms_trace.specs.declared.trace.Line.{Line}
-use Rattle.ms_answers.specs.declared.details.Detail.{Detail}
+use Rattle.ms_answers.specs.declared.verbosity.Verbosity.{Verbosity}
 use Rattle.ms_answers.specs.declared.replies.Answer.{Answer}
 use Rattle.ms_loader_map.specs.Used.{used_if}
 use Rattle.ms_run.specs.declared.alone.Metered.{Metered}
@@ -24,11 +24,11 @@ used_around _ loaders = 0
 
 -- The system is good; where they are counted, the words in use are its. Peaks are kept for full
 -- reports, and only where words are counted.
-pub record IsCounted (counts : Bool) (detail : Detail) (run : Metered) : Type 0 where
+pub record IsCounted (counts : Bool) (verbosity : Verbosity) (run : Metered) : Type 0 where
   pub good : IsGood run.system
   pub used : IsTrue counts → run.used ≡ used_words_of run.system
-  pub kept : AreKept detail run.peaks
-  pub counting : is_full detail ≡ true → IsTrue counts
+  pub kept : AreKept verbosity run.peaks
+  pub counting : is_full verbosity ≡ true → IsTrue counts
 
 -- A run that took this course: its system is in the last state, and the peaks that it keeps are
 -- those of all states.

@@ -6,14 +6,14 @@ use Rattle.ms_base.specs.Names.{named}
 use Rattle.ms_base.specs.State.{Limits, LoaderState, Machine, empty_machine}
 use Rattle.ms_trace.specs.declared.trace.Line.{Line}
 use Rattle.ms_loader.specs.declared.amounts.Amounts.{Amounts}
-use Rattle.ms_answers.specs.declared.details.Detail.TheVariants.{Full}
+use Rattle.ms_answers.specs.declared.verbosity.Verbosity.TheVariants.{Full}
 use Rattle.ms_answers.specs.declared.replies.Answer.{Answer}
 use Rattle.ms_answers.specs.declared.totals.Totals.{Totals}
 use Rattle.ms_loader.specs.Amounts.{amounts_if, no_amounts}
 use Rattle.ms_run.specs.declared.alone.Metered.{Metered}
 use Rattle.ms_run.specs.Counting.{HasTaken}
 use Rattle.ms_run.specs.Course.{Course, begun}
-use Rattle.ms_run.specs.Replay.{Answers, AreOf, HasDetail, IsDetailed}
+use Rattle.ms_run.specs.Replay.{Answers, AreOf, HasVerbosity, IsDetailed}
 use Rattle.ms_run.specs.Seeing.{Sight, SeesAll, sight_of}
 use Rattle.ms_run.specs.Sink.{PutsAll}
 
@@ -49,7 +49,7 @@ pub record IsObserved (limits : Limits) (lines : List Line) (answers : List Answ
   pub seen : AreSeen (begun (empty_machine limits)) lines answers sights last
   pub detailed : All (IsDetailed Full) answers
   pub totals_are : AreOf last totals
-  pub full : HasDetail Full totals
+  pub full : HasVerbosity Full totals
 
 -- The amounts of the loader of a name, where there is one.
 abbrev pub amounts_in : Option ℕ → List (ℕ × LoaderState) → Amounts

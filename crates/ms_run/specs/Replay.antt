@@ -17,8 +17,8 @@ use Rattle.ms_trace.specs.declared.trace.Command.{Command}
 use Rattle.ms_trace.specs.declared.trace.Command.TheVariants.{Step as Asks, Sync, Report}
 use Rattle.ms_trace.specs.declared.trace.Line.{Line}
 use Rattle.ms_trace.specs.Steps.{step_of}
-use Rattle.ms_answers.specs.declared.details.Detail.{Detail}
-use Rattle.ms_answers.specs.declared.details.Detail.TheVariants.{Basic, Full}
+use Rattle.ms_answers.specs.declared.verbosity.Verbosity.{Verbosity}
+use Rattle.ms_answers.specs.declared.verbosity.Verbosity.TheVariants.{Basic, Full}
 use Rattle.ms_answers.specs.declared.peaks.Peaks.{Peaks}
 use Rattle.ms_answers.specs.declared.totals.Totals.{Totals}
 use Rattle.ms_answers.specs.declared.replies.Answer.{Answer}
@@ -53,19 +53,19 @@ Reports Report course None = ⊥
 Reports Report course (Some totals) = AreOf course totals.value
 
 -- A report has details and peaks exactly where it shall be full.
-abbrev pub is_full : Detail → Bool
+abbrev pub is_full : Verbosity → Bool
 is_full Basic = false
 is_full Full = true
 
-abbrev pub AreKept : Detail → Option Peaks → Type 0
-AreKept detail peaks = is_some peaks ≡ is_full detail
+abbrev pub AreKept : Verbosity → Option Peaks → Type 0
+AreKept verbosity peaks = is_some peaks ≡ is_full verbosity
 
-pub record HasDetail (detail : Detail) (totals : Totals) : Type 0 where
-  pub details : is_some totals.details ≡ is_full detail
-  pub peaks : AreKept detail totals.peaks
+pub record HasVerbosity (verbosity : Verbosity) (totals : Totals) : Type 0 where
+  pub details : is_some totals.details ≡ is_full verbosity
+  pub peaks : AreKept verbosity totals.peaks
 
-abbrev pub IsDetailed : Detail → Answer → Type 0
-IsDetailed detail answer = IfSome answer.report (λ totals. HasDetail detail totals.value)
+abbrev pub IsDetailed : Verbosity → Answer → Type 0
+IsDetailed verbosity answer = IfSome answer.report (λ totals. HasVerbosity verbosity totals.value)
 
 -- The answers to the lines of a trace, of which one follows the other: the machine runs from old to
 -- new, and each line has one.

@@ -5,7 +5,7 @@ use Rattle.ms_base.specs.State.{Limits, empty_machine, limits_of}
 use Rattle.ms_base.specs.declared.settings.Settings.{Settings}
 use Rattle.ms_base.specs.declared.step.Reply.{Reply}
 use Rattle.ms_trace.specs.declared.trace.Line.{Line}
-use Rattle.ms_answers.specs.declared.details.Detail.{Detail}
+use Rattle.ms_answers.specs.declared.verbosity.Verbosity.{Verbosity}
 use Rattle.ms_answers.specs.declared.replies.Answer.{Answer}
 use Rattle.ms_run.specs.Counting.{GoesOnBy, GoesOnTo, HasTaken}
 use Rattle.ms_run.specs.Course.{Course, begun}
@@ -22,41 +22,41 @@ abbrev pub Puts : {S : Type 0} → (S → S → List Answer → Type 0) → (Lis
 Puts took are old new = (added : List Answer) × PutsAll took added old new × are added
 
 -- Answers are those to some lines by one worker, as a run goes on.
-abbrev pub AreOfLines : Detail → Metered → List Line → Metered → List Answer → Type 0
-AreOfLines detail old lines new answers = All (IsDetailed detail) answers × GoesOnBy old lines answers new
+abbrev pub AreOfLines : Verbosity → Metered → List Line → Metered → List Answer → Type 0
+AreOfLines verbosity old lines new answers = All (IsDetailed verbosity) answers × GoesOnBy old lines answers new
 
 -- There is one answer, to a line that one worker answers with this reply, as a run goes on.
-abbrev pub IsOfLine : Detail → Metered → Line → Reply → Metered → List Answer → Type 0
-IsOfLine detail old line reply new answers =
-    (answer : Answer) × answers ≡ answer ∷ [] × IsDetailed detail answer
+abbrev pub IsOfLine : Verbosity → Metered → Line → Reply → Metered → List Answer → Type 0
+IsOfLine verbosity old line reply new answers =
+    (answer : Answer) × answers ≡ answer ∷ [] × IsDetailed verbosity answer
     × ((course : Course) → HasTaken course old
     → (answer.reply ≡ reply) × (later : Course) × Answers course (line ∷ []) (answer ∷ []) later × HasTaken later new)
 
 -- They are those to all lines of one run, from the machine on that has nothing.
-abbrev pub AreOfRun : Limits → Detail → List Line → List Answer → Type 0
-AreOfRun limits detail lines answers =
-    (last : Course) × Answers (begun (empty_machine limits)) lines answers last × All (IsDetailed detail) answers
+abbrev pub AreOfRun : Limits → Verbosity → List Line → List Answer → Type 0
+AreOfRun limits verbosity lines answers =
+    (last : Course) × Answers (begun (empty_machine limits)) lines answers last × All (IsDetailed verbosity) answers
 
 -- They are those to a phase, or to a part of one, by the workers that it has, as a run goes on.
-abbrev pub AreOfPhase : Detail → (Option ℕ → ℕ) → Metered → List Line → Metered → List Answer → Type 0
-AreOfPhase detail worker old lines new answers = All (IsDetailed detail) answers × GoesOnTo worker old lines answers new
+abbrev pub AreOfPhase : Verbosity → (Option ℕ → ℕ) → Metered → List Line → Metered → List Answer → Type 0
+AreOfPhase verbosity worker old lines new answers = All (IsDetailed verbosity) answers × GoesOnTo worker old lines answers new
 
 -- There is one answer, to a line that asks no step.
-abbrev pub IsOfEnd : Detail → Metered → Line → List Answer → Type 0
-IsOfEnd detail run line answers =
-    (answer : Answer) × answers ≡ answer ∷ [] × IsDetailed detail answer
+abbrev pub IsOfEnd : Verbosity → Metered → Line → List Answer → Type 0
+IsOfEnd verbosity run line answers =
+    (answer : Answer) × answers ≡ answer ∷ [] × IsDetailed verbosity answer
     × ((course : Course) → HasTaken course run → IsEnd course line answer)
 
 -- They are those to all lines, phase by phase.
-abbrev pub AreOfPhases : Settings → Detail → List Line → List Answer → Type 0
-AreOfPhases settings detail lines answers =
-    IsReplay (limits_of settings) settings.workers lines answers × All (IsDetailed detail) answers
+abbrev pub AreOfPhases : Settings → Verbosity → List Line → List Answer → Type 0
+AreOfPhases settings verbosity lines answers =
+    IsReplay (limits_of settings) settings.workers lines answers × All (IsDetailed verbosity) answers
 
 -- Answers are those to a trace: answered phase by phase by so many workers, with one of them as one
 -- run of the machine in the order of the lines, and reports have the details that are asked for.
-pub record AreToTrace (settings : Settings) (detail : Detail) (lines : List Line) (answers : List Answer)
+pub record AreToTrace (settings : Settings) (verbosity : Verbosity) (lines : List Line) (answers : List Answer)
     : Type 0 where
   pub own : IsReplay (limits_of settings) settings.workers lines answers
   pub run : settings.workers ≡ 1
       → (last : Course) × Answers (begun (empty_machine (limits_of settings))) lines answers last
-  pub detailed : All (IsDetailed detail) answers
+  pub detailed : All (IsDetailed verbosity) answers

@@ -19,7 +19,7 @@ ghost use Rattle.ms_trace.specs.Steps.{step_of};
 use crate::between::answer_between;
 use crate::gate::{Gate, Manner};
 use crate::peaks::{begin, raise};
-use ms_answers::{Answer, AnswerSink, Detail, Peaks, Replies};
+use ms_answers::{Answer, AnswerSink, Peaks, Replies, Verbosity};
 use ms_base::{Reply, Settings, Step};
 use ms_loaders::System;
 use ms_trace::{Command, Line};
@@ -45,23 +45,27 @@ pub fn answer_alone<G: Gate, S: AnswerSink>(
     sink: &mut S,
 ) -> Result<(), AllocError>
     ensures answers { OnOk result (Puts S.took
-        (AreOfRun (limits_of settings) manner.now.detail lines.now) sink.old sink.new) }
+        (AreOfRun (limits_of settings) manner.now.verbosity lines.now) sink.old sink.new) }
     ensures gated { OnOk result (AreGated (G.told manner.now.gate.now) (λ name. 0) lines.now) }
 {
-    let mut run = begin_run(alloc, settings, manner.detail)?;
+    let mut run = begin_run(alloc, settings, manner.verbosity)?;
     let counts = manner.gate.looks() | run.peaks.is_some();
     answer_lines(alloc, manner, 0, counts, lines, &mut run, sink)
 }
 
 /// Begins a run: a system without loaders, and peaks where reports shall be full.
-pub fn begin_run(alloc: Global, settings: Settings, detail: Detail) -> Result<Metered, AllocError>
+pub fn begin_run(
+    alloc: Global,
+    settings: Settings,
+    verbosity: Verbosity,
+) -> Result<Metered, AllocError>
     ensures taken { IfOk result (HasTaken (begun (empty_machine (limits_of settings)))) }
     ensures good { IfOk result (λ run. IsGood run.system) }
     ensures used { IfOk result (λ run. run.used ≡ used_words_of run.system) }
-    ensures kept { IfOk result (λ run. AreKept detail run.peaks) }
+    ensures kept { IfOk result (λ run. AreKept verbosity run.peaks) }
 {
     let system = System::new(alloc, settings)?;
-    let peaks = begin(&system, detail);
+    let peaks = begin(&system, verbosity);
     Ok(Metered {
         system,
         used: 0,
@@ -81,10 +85,10 @@ pub fn answer_lines<G: Gate, S: AnswerSink>(
     run: &mut Metered,
     sink: &mut S,
 ) -> Result<(), AllocError>
-    requires { IsCounted counts manner.now.detail run.old }
+    requires { IsCounted counts manner.now.verbosity run.old }
     ensures answers { OnOk result
-        (Puts S.took (AreOfLines manner.now.detail run.old lines.now run.new) sink.old sink.new) }
-    ensures counted { OnOk result (IsCounted counts manner.now.detail run.new) }
+        (Puts S.took (AreOfLines manner.now.verbosity run.old lines.now run.new) sink.old sink.new) }
+    ensures counted { OnOk result (IsCounted counts manner.now.verbosity run.new) }
     ensures gated { OnOk result (AreGated (G.told manner.now.gate.now) (λ name. worker) lines.now) }
 {
     for line in lines {
@@ -103,15 +107,15 @@ pub fn answer_line<G: Gate, S: AnswerSink>(
     run: &mut Metered,
     sink: &mut S,
 ) -> Result<Reply, AllocError>
-    requires { IsCounted counts manner.now.detail run.old }
+    requires { IsCounted counts manner.now.verbosity run.old }
     ensures answered { IfOk result (λ reply.
-        Puts S.took (IsOfLine manner.now.detail run.old line.now reply run.new) sink.old sink.new) }
-    ensures counted { OnOk result (IsCounted counts manner.now.detail run.new) }
+        Puts S.took (IsOfLine manner.now.verbosity run.old line.now reply run.new) sink.old sink.new) }
+    ensures counted { OnOk result (IsCounted counts manner.now.verbosity run.new) }
     ensures gated { OnOk result (IsGatedBy (G.told manner.now.gate.now) (λ name. worker)
         line.now (step_of line.now.command)) }
 {
     let Command::Step(step) = line.command() else {
-        answer_between(alloc, run, None, manner.detail, line, sink)?;
+        answer_between(alloc, run, None, manner.verbosity, line, sink)?;
         return Ok(Reply::Ok);
     };
     let number = line.number();

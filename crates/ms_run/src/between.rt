@@ -11,35 +11,35 @@ ghost use Rattle.ms_answers.specs.Sums.{sums_in};
 ghost use Rattle.ms_trace.specs.Steps.{step_of};
 ghost use Rattle.ms_run.specs.Course.{Course};
 ghost use Rattle.ms_run.specs.Counting.{HasTaken};
-ghost use Rattle.ms_run.specs.Replay.{AreKept, AreOf, HasDetail, Reports};
+ghost use Rattle.ms_run.specs.Replay.{AreKept, AreOf, HasVerbosity, Reports};
 ghost use Rattle.ms_run.specs.Replay.{is_full};
 ghost use Rattle.ms_run.specs.Sink.{IsOfEnd, Puts};
 ghost use Rattle.ms_run.specs.Metering.{used_words_of};
 
 use crate::alone::Metered;
-use ms_answers::{Answer, AnswerSink, Detail, Details, SpaceTotals, Totals};
+use ms_answers::{Answer, AnswerSink, Details, SpaceTotals, Totals, Verbosity};
 use ms_base::Reply;
 use ms_loaders::System;
 use ms_trace::{Command, Line};
 use std::alloc::{AllocError, Global};
 
-/// Answers a line that asks no step: a report with the totals as they are, in so much detail, and
+/// Answers a line that asks no step: a report with the totals as they are, of that verbosity, and
 /// with the peaks that are kept. The words in use, of both spaces, are taken from a count of them
 /// where there is one.
 pub fn answer_between<S: AnswerSink>(
     alloc: Global,
     run: &Metered,
     used: Option<u64>,
-    detail: Detail,
+    verbosity: Verbosity,
     line: &Line,
     sink: &mut S,
 ) -> Result<(), AllocError>
     requires no_step { step_of line.now.command ≡ None }
     requires used { IfSome used (λ words. words ≡ used_words_of run.now.system) }
-    requires kept { AreKept detail run.now.peaks }
-    ensures { OnOk result (Puts S.took (IsOfEnd detail run.now line.now) sink.old sink.new) }
+    requires kept { AreKept verbosity run.now.peaks }
+    ensures { OnOk result (Puts S.took (IsOfEnd verbosity run.now line.now) sink.old sink.new) }
 {
-    let report = report_for(alloc, run, used, detail, line.command())?;
+    let report = report_for(alloc, run, used, verbosity, line.command())?;
     sink.put(Answer {
         line: line.number(),
         reply: Reply::Ok,
@@ -52,32 +52,36 @@ fn report_for(
     alloc: Global,
     run: &Metered,
     used: Option<u64>,
-    detail: Detail,
+    verbosity: Verbosity,
     command: Command,
 ) -> Result<Option<Box<Totals>>, AllocError>
     requires used { IfSome used (λ words. words ≡ used_words_of run.now.system) }
-    requires kept { AreKept detail run.now.peaks }
+    requires kept { AreKept verbosity run.now.peaks }
     ensures reports { IfOk result (λ report. (course : Course) → HasTaken course run.now
         → Reports command course report) }
     ensures detailed { IfOk result (λ report.
-        IfSome report (λ totals. HasDetail detail totals.value)) }
+        IfSome report (λ totals. HasVerbosity verbosity totals.value)) }
 {
     match command {
-        Command::Report => Ok(Some(Box::new(alloc, totals_of(run, used, detail)?)?)),
+        Command::Report => Ok(Some(Box::new(alloc, totals_of(run, used, verbosity)?)?)),
         Command::Step(_) | Command::Sync => Ok(None),
     }
 }
 
 /// Gathers the totals, with the words in use from a count where there is one, the peaks where they
 /// are kept, and their details where they are asked for.
-pub fn totals_of(run: &Metered, used: Option<u64>, detail: Detail) -> Result<Totals, AllocError>
+pub fn totals_of(
+    run: &Metered,
+    used: Option<u64>,
+    verbosity: Verbosity,
+) -> Result<Totals, AllocError>
     requires used { IfSome used (λ words. words ≡ used_words_of run.now.system) }
-    requires kept { AreKept detail run.now.peaks }
+    requires kept { AreKept verbosity run.now.peaks }
     ensures of { IfOk result (λ totals. (course : Course) → HasTaken course run.now
         → AreOf course totals) }
-    ensures detailed { IfOk result (λ totals. HasDetail detail totals) }
+    ensures detailed { IfOk result (λ totals. HasVerbosity verbosity totals) }
 {
-    let details = details_for(&run.system, detail)?;
+    let details = details_for(&run.system, verbosity)?;
     let totals = counted(&run.system, used)?;
     Ok(Totals {
         details,
@@ -87,14 +91,14 @@ pub fn totals_of(run: &Metered, used: Option<u64>, detail: Detail) -> Result<Tot
 }
 
 /// Gathers the details where they are asked for.
-fn details_for(system: &System, detail: Detail) -> Result<Option<Details>, AllocError>
+fn details_for(system: &System, verbosity: Verbosity) -> Result<Option<Details>, AllocError>
     ensures of { IfOk result (λ details.
         IfSome details (λ its. details_in its ≡ details_of system.now)) }
-    ensures detailed { IfOk result (λ details. is_some details ≡ is_full detail) }
+    ensures detailed { IfOk result (λ details. is_some details ≡ is_full verbosity) }
 {
-    match detail {
-        Detail::Basic => Ok(None),
-        Detail::Full => Ok(Some(system.details()?)),
+    match verbosity {
+        Verbosity::Basic => Ok(None),
+        Verbosity::Full => Ok(Some(system.details()?)),
     }
 }
 

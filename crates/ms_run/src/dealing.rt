@@ -47,6 +47,15 @@ struct Crew {
     loaders: Loaders,
 }
 
+/// What a worker is given beside its crew: its number, its seat of the meter and the indices of its
+/// lines.
+#[derive(Drop)]
+struct Assignment {
+    worker: usize,
+    meter: MeterSeat,
+    indices: Vec<usize>,
+}
+
 /// Deals lines and loaders to shares over one lock and one meter. An error means that memory was
 /// wanting.
 pub fn deal(
@@ -145,13 +154,21 @@ fn deal_to(
         let indices = take_list(alloc, &mut lists, at);
         let meter = meters.remove(0);
         let worker = turn.worker(at);
-        let share = share_beside(
-            alloc, worker, shared, lines, &mut first, seat, indices, meter,
-        )?;
+        let own = Assignment {
+            worker,
+            meter,
+            indices,
+        };
+        let share = share_beside(alloc, shared, lines, &mut first, seat, own)?;
         shares.push_reserved(share);
     }
     let indices = take_list(alloc, &mut lists, 0);
-    let share = make_share(alloc, turn.worker(0), indices, first, first_meter)?;
+    let own = Assignment {
+        worker: turn.worker(0),
+        meter: first_meter,
+        indices,
+    };
+    let share = make_share(alloc, own, first)?;
     put_first(shares, share)
 }
 
@@ -172,20 +189,18 @@ fn put_first(mut shares: Vec<Share>, share: Share) -> Result<Vec<Share>, AllocEr
 /// that the lines at the indices name.
 fn share_beside(
     alloc: Global,
-    worker: usize,
     shared: &SharedPool,
     lines: &[Line],
     first: &mut Crew,
     seat: PoolSeat,
-    indices: Vec<usize>,
-    meter: MeterSeat,
+    own: Assignment,
 ) -> Result<Share, AllocError>
     requires { AreCrews shared.now first.old.seat first.old.loaders seat [] }
-    ensures made { IfOk result (IsNewShare worker indices.items meter) }
+    ensures made { IfOk result (IsNewShare own.worker own.indices.items own.meter) }
     ensures crews { IfOk result (λ share.
         AreCrews shared.now first.new.seat first.new.loaders share.seat share.loaders) }
     ensures handed { IfOk result (λ share.
-        AreHanded (names_in (tasks_by lines.now indices.items)) first.old.loaders
+        AreHanded (names_in (tasks_by lines.now own.indices.items)) first.old.loaders
         first.new.loaders share.loaders) }
     ensures first { IfOk result (λ share. IsSameSeat first.old.seat first.new.seat) }
     ensures seat { IfOk result (λ share. IsSameSeat seat share.seat) }
@@ -194,24 +209,23 @@ fn share_beside(
 {
     let loaders = Loaders::new(alloc);
     let mut crew = Crew { seat, loaders };
-    hand_all(shared, lines, indices.as_slice(), first, &mut crew)?;
-    make_share(alloc, worker, indices, crew, meter)
+    hand_all(shared, lines, own.indices.as_slice(), first, &mut crew)?;
+    make_share(alloc, own, crew)
 }
 
 /// Makes the share of a worker, with room for its replies.
-fn make_share(
-    alloc: Global,
-    worker: usize,
-    indices: Vec<usize>,
-    crew: Crew,
-    meter: MeterSeat,
-) -> Result<Share, AllocError>
-    ensures made { IfOk result (IsNewShare worker indices.items meter) }
+fn make_share(alloc: Global, own: Assignment, crew: Crew) -> Result<Share, AllocError>
+    ensures made { IfOk result (IsNewShare own.worker own.indices.items own.meter) }
     ensures seat { IfOk result (λ share. share.seat ≡ crew.seat) }
     ensures loaders { IfOk result (λ share. share.loaders ≡ crew.loaders) }
 {
-    let replies = Vec::with_capacity(alloc, indices.len())?;
+    let replies = Vec::with_capacity(alloc, own.indices.len())?;
     let Crew { seat, loaders } = crew;
+    let Assignment {
+        worker,
+        meter,
+        indices,
+    } = own;
     Ok(Share {
         worker,
         seat,
@@ -234,21 +248,24 @@ fn deal_lines(
         AreListed lines.now (position_in turn.now) lines.now lists.items) }
     ensures count { IfOk result (λ lists. vec_len lists ≡ count) }
 {
-    let mut lists = empty_lists(alloc, count)?;
+    // An eighth more than an even share, since lines seldom go evenly.
+    let even = lines.len() / count.max(1);
+    let mut lists = empty_lists(alloc, count, even.saturating_add(even / 8))?;
     for (index, line) in lines.iter().enumerate() {
         add_line(turn, index, *line, &mut lists)?;
     }
     Ok(lists)
 }
 
-/// Makes so many lists of no line.
-fn empty_lists(alloc: Global, count: usize) -> Result<Vec<Vec<usize>>, AllocError>
+/// Makes so many lists of no line, each with room for some.
+fn empty_lists(alloc: Global, count: usize, room: usize) -> Result<Vec<Vec<usize>>, AllocError>
     ensures listed { IfOk result (λ lists. AreEmpty lists.items) }
     ensures count { IfOk result (λ lists. vec_len lists ≡ count) }
 {
     let mut lists = Vec::with_capacity(alloc, count)?;
     for _ in 0..count {
-        lists.push_reserved(Vec::new(alloc));
+        let list = Vec::with_capacity(alloc, room)?;
+        lists.push_reserved(list);
     }
     Ok(lists)
 }

@@ -2,7 +2,7 @@
 ghost use Rattle.std.specs.Prelude.{⊤};
 ghost use Rattle.ms_run.specs.Gating.{GateCall, Before, After};
 
-use ms_answers::Detail;
+use ms_answers::Verbosity;
 
 /// What is called round each line that asks a step, by the worker that works it. A test can hold
 /// workers there. This project's choice.
@@ -41,11 +41,11 @@ impl Gate for NoGate {
     }
 }
 
-/// How lines are answered: which gate is called round them, and in how much detail reports tell.
+/// How lines are answered: which gate is called round them, and how much reports tell.
 #[derive(Drop)]
 pub struct Manner<'a, G> {
     /// The gate.
     pub gate: &'a G,
     /// What reports tell.
-    pub detail: Detail,
+    pub verbosity: Verbosity,
 }

@@ -40,17 +40,16 @@ pub fn answer_metered<R: Wait>(
     match step {
         Step::Unload { loader } => {
             meter.sub(seat, loaders.used_by(loader));
-            return answer_unload(alloc, pool, loaders, loader);
+            answer(alloc, pool, loaders, step)
         }
         Step::Alloc { loader, .. } => {
-            return answer_rise(alloc, pool, loaders, meter, seat, loader, step);
+            answer_rise(alloc, pool, loaders, meter, seat, loader, step)
         }
         Step::Calloc { loader, .. } => {
-            return answer_rise(alloc, pool, loaders, meter, seat, loader, step);
+            answer_rise(alloc, pool, loaders, meter, seat, loader, step)
         }
-        _ => {}
+        _ => answer(alloc, pool, loaders, step),
     }
-    answer_still(alloc, pool, loaders, step)
 }
 
 /// Answers a step that may raise the words in use of the loader that it names, and adds the rise.
@@ -80,42 +79,6 @@ fn answer_rise<R: Wait>(
         meter.add(seat, rise);
     }
     reply
-}
-
-/// Answers the unloading of a loader, with which all its words in use go.
-fn answer_unload<R: Wait>(
-    alloc: Global,
-    pool: &mut LockedPool<'_, R>,
-    loaders: &mut Loaders,
-    name: u16,
-) -> Reply
-    requires { IsManned pool.old.knows loaders.old }
-    ensures lock { pool.new.id ≡ pool.old.id }
-    ensures answered { IsAnswered loaders.old (Step.Unload name) result pool.new.knows loaders.new }
-    ensures made { HasMade pool.old pool.new
-        (Makes loaders.old (Step.Unload name) result loaders.new) }
-    ensures touches { Touches loaders.old (Step.Unload name) result loaders.new }
-    ensures used { used_in loaders.new + used_at (named loaders.old name) ≡ used_in loaders.old }
-{
-    answer(alloc, pool, loaders, Step::Unload { loader: name })
-}
-
-/// Answers a step that leaves the words in use as they are.
-fn answer_still<R: Wait>(
-    alloc: Global,
-    pool: &mut LockedPool<'_, R>,
-    loaders: &mut Loaders,
-    step: Step,
-) -> Reply
-    requires manned { IsManned pool.old.knows loaders.old }
-    requires still { MovesNoTop step }
-    ensures lock { pool.new.id ≡ pool.old.id }
-    ensures answered { IsAnswered loaders.old step result pool.new.knows loaders.new }
-    ensures made { HasMade pool.old pool.new (Makes loaders.old step result loaders.new) }
-    ensures touches { Touches loaders.old step result loaders.new }
-    ensures used { used_in loaders.new ≡ used_in loaders.old }
-{
-    answer(alloc, pool, loaders, step)
 }
 
 /// Answers a step over the lock. The replies to a loader's steps are its own; the other loaders

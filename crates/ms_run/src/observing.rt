@@ -26,7 +26,7 @@ use crate::fault::RunFault;
 use crate::gate::{Manner, NoGate};
 use crate::observer::Observer;
 use crate::turn::loader_named;
-use ms_answers::{AnswerSink, Detail, Totals};
+use ms_answers::{AnswerSink, Totals, Verbosity};
 use ms_base::{NODE_WORDS, Settings};
 use ms_course::{Extent, Standing};
 use ms_loader::Amounts;
@@ -47,15 +47,15 @@ pub fn replay_observed<S: AnswerSink, O: Observer>(
     observer: &mut O,
 ) -> Result<Totals, RunFault>
     ensures answers { settings.workers ≡ 1 → OnOk result
-        (Puts S.took (AreToTrace settings Detail.Full trace.now.lines) sink.old sink.new) }
+        (Puts S.took (AreToTrace settings Verbosity.Full trace.now.lines) sink.old sink.new) }
     ensures observed { IfOk result (λ totals. PutsAndSees S.took O.saw (λ answers sights.
         IsObserved (limits_of settings) trace.now.lines answers sights totals)
         sink.old sink.new observer.old observer.new) }
     ensures wanting { IfErr result (λ fault. fault ≡ RunFault.OutOfMemory) }
 {
-    let mut run = begin_run(alloc, settings, Detail::Full)?;
+    let mut run = begin_run(alloc, settings, Verbosity::Full)?;
     watch_lines(alloc, trace.lines.as_slice(), &mut run, sink, observer)?;
-    Ok(totals_of(&run, Some(run.used), Detail::Full)?)
+    Ok(totals_of(&run, Some(run.used), Verbosity::Full)?)
 }
 
 /// Answers the lines in their order, each of which the observer then sees.
@@ -66,12 +66,12 @@ fn watch_lines<S: AnswerSink, O: Observer>(
     sink: &mut S,
     observer: &mut O,
 ) -> Result<(), AllocError>
-    requires counted { IsCounted true Detail.Full run.old }
+    requires counted { IsCounted true Verbosity.Full run.old }
     requires taken { (course : Course) × HasTaken course run.old }
     requires none { amounts_of run.old.system ≡ no_amounts }
     ensures watched { OnOk result (PutsAndSees S.took O.saw
         (WatchesLines run.old lines.now run.new) sink.old sink.new observer.old observer.new) }
-    ensures counted { OnOk result (IsCounted true Detail.Full run.new) }
+    ensures counted { OnOk result (IsCounted true Verbosity.Full run.new) }
 {
     let mut amounts = Amounts::NONE;
     for line in lines {
@@ -89,19 +89,19 @@ fn watch_line<S: AnswerSink, O: Observer>(
     sink: &mut S,
     observer: &mut O,
 ) -> Result<Amounts, AllocError>
-    requires counted { IsCounted true Detail.Full run.old }
+    requires counted { IsCounted true Verbosity.Full run.old }
     requires taken { (course : Course) × HasTaken course run.old }
     requires amounts { amounts ≡ amounts_of run.old.system }
     ensures watched { OnOk result (PutsAndSees S.took O.saw
         (WatchesLines run.old (line.now ∷ []) run.new) sink.old sink.new observer.old observer.new) }
-    ensures counted { OnOk result (IsCounted true Detail.Full run.new) }
+    ensures counted { OnOk result (IsCounted true Verbosity.Full run.new) }
     ensures amounts { IfOk result (λ after. after ≡ amounts_of run.new.system) }
 {
     let name = name_in(line);
     let before = amounts_at(&run.system, name);
     let manner = Manner {
         gate: &NoGate,
-        detail: Detail::Full,
+        verbosity: Verbosity::Full,
     };
     let reply = answer_line(alloc, &manner, 0, true, line, run, sink)?;
     let after = amounts_at(&run.system, name);

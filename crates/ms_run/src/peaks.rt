@@ -10,18 +10,18 @@ ghost use Rattle.ms_run.specs.Metering.{used_words_of};
 ghost use Rattle.ms_run.specs.Peaks.{ArePeaksIfKept, usage_of};
 ghost use Rattle.ms_run.specs.Replay.{AreKept};
 
-use ms_answers::{Detail, Peaks};
+use ms_answers::{Peaks, Verbosity};
 use ms_loaders::System;
 
 /// Begins peaks where reports shall be full, with what a system has that has no word in use.
-pub fn begin(system: &System, detail: Detail) -> Option<Peaks>
+pub fn begin(system: &System, verbosity: Verbosity) -> Option<Peaks>
     requires { used_words_of system.now ≡ 0 }
     ensures peaks { ArePeaksIfKept (system.now ∷ []) result }
-    ensures kept { AreKept detail result }
+    ensures kept { AreKept verbosity result }
 {
-    match detail {
-        Detail::Basic => None,
-        Detail::Full => Some(usage(system, 0)),
+    match verbosity {
+        Verbosity::Basic => None,
+        Verbosity::Full => Some(usage(system, 0)),
     }
 }
 

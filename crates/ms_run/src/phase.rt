@@ -17,7 +17,7 @@ ghost use Rattle.ms_shared.specs.MeterRule.{MeterSeatState};
 ghost use Rattle.ms_run.specs.Counting.{IsCounted};
 ghost use Rattle.ms_run.specs.Joined.{IsEnded};
 ghost use Rattle.ms_run.specs.Gating.{AreGated};
-ghost use Rattle.ms_answers.specs.declared.details.Detail.{Detail as DetailOf};
+ghost use Rattle.ms_answers.specs.declared.verbosity.Verbosity.{Verbosity as VerbosityOf};
 ghost use Rattle.ms_run.specs.Shares.{AreApart, AreSteps, Position, StandOver};
 ghost use Rattle.ms_run.specs.Metering.{amount_of, meter_of, used_words_of};
 ghost use Rattle.ms_run.specs.Turn.{worker_in, HaveOwnShares, IsSameTurn, TurnState};
@@ -31,7 +31,7 @@ use crate::merging::merge;
 use crate::peaks::raise;
 use crate::share::Share;
 use crate::turn::Turn;
-use crate::working::work_all;
+use crate::working::{Context, work_all};
 use ms_answers::{Answer, AnswerSink};
 use ms_loaders::System;
 use ms_shared::{MeterSeat, SharedPool, UsedMeter};
@@ -50,14 +50,14 @@ pub fn run_phase<R: Threads + Wait + Sync, G: Gate + Sync, S: AnswerSink>(
     run: Metered,
     sink: &mut S,
 ) -> Result<Metered, RunFault>
-    requires counted { IsCounted true manner.now.detail run }
+    requires counted { IsCounted true manner.now.verbosity run }
     requires steps { AreSteps lines.now }
     ensures phase { IfOk result (λ after. Puts S.took
-        (AreOfPhase manner.now.detail (worker_in turn.old) run lines.now after) sink.old sink.new) }
+        (AreOfPhase manner.now.verbosity (worker_in turn.old) run lines.now after) sink.old sink.new) }
     ensures gated { OnOk result
         (AreGated (G.told manner.now.gate.now) (worker_in turn.old) lines.now) }
     ensures turn { IsSameTurn turn.old turn.new }
-    ensures counted { IfOk result (IsCounted true manner.now.detail) }
+    ensures counted { IfOk result (IsCounted true manner.now.verbosity) }
     ensures wanting { IfErr result IsWanting }
 {
     turn.activate(lines);
@@ -98,12 +98,12 @@ fn run_shares<R: Threads + Wait + Sync, G: Gate + Sync, S: AnswerSink>(
     requires used { run.used ≡ used_words_of run.system }
     requires steps { AreSteps lines.now }
     requires shared { HaveOwnShares turn.now lines.now }
-    ensures phase { (before : TurnState) (detail : DetailOf) → IsSameTurn before turn.now
+    ensures phase { (before : TurnState) (verbosity : VerbosityOf) → IsSameTurn before turn.now
         → IfOk result (λ after. Puts S.took
-        (AreOfPhase detail (worker_in before) run lines.now after) sink.old sink.new) }
+        (AreOfPhase verbosity (worker_in before) run lines.now after) sink.old sink.new) }
     ensures gated { OnOk result (AreGated (G.told gate.now) (worker_in turn.now) lines.now) }
-    ensures counted { (detail : DetailOf) → AreKept detail run.peaks
-        → IfOk result (IsCounted true detail) }
+    ensures counted { (verbosity : VerbosityOf) → AreKept verbosity run.peaks
+        → IfOk result (IsCounted true verbosity) }
     ensures wanting { IfErr result IsWanting }
 {
     let Metered {
@@ -113,7 +113,16 @@ fn run_shares<R: Threads + Wait + Sync, G: Gate + Sync, S: AnswerSink>(
     } = run;
     let (pool, loaders) = system.into_parts();
     let (shared, shares, meter) = deal(alloc, turn, lines, pool, loaders)?;
-    let shares = work_all(rt, alloc, &shared, &meter, used, gate, lines, shares)?;
+    let context = Context {
+        rt,
+        alloc,
+        shared: &shared,
+        meter: &meter,
+        before: used,
+        gate,
+        lines,
+    };
+    let shares = work_all(&context, shares)?;
     merge(alloc, turn, lines, &shares, sink)?;
     let (system, amount) = end_shares(alloc, shared, shares, meter)?;
     let used = used.wrapping_add(amount);

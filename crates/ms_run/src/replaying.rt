@@ -25,7 +25,7 @@ use crate::fault::RunFault;
 use crate::gate::{Gate, Manner};
 use crate::phase::run_phase;
 use crate::turn::Turn;
-use ms_answers::{AnswerSink, Detail, Replies};
+use ms_answers::{AnswerSink, Replies, Verbosity};
 use ms_base::Settings;
 use ms_trace::{Command, Line, Trace};
 use std::alloc::{AllocError, Global};
@@ -55,31 +55,31 @@ pub fn replay<R: Threads + Wait + Sync, G: Gate + Sync>(
     ensures run { settings.workers ≡ 1 → IfOk result (λ replies. (last : Course) × Answers
         (begun (empty_machine (limits_of settings))) trace.now.lines replies.answers.items last) }
     ensures detailed { IfOk result (λ replies.
-        All (IsDetailed Detail.Basic) replies.answers.items) }
+        All (IsDetailed Verbosity.Basic) replies.answers.items) }
     ensures gated { OnOk result
         (AreGatedByTurn (G.told gate.now) settings.workers trace.now.lines) }
     ensures wanting { IfErr result IsWanting }
     ensures no_thread { settings.workers ≡ 1
         → IfErr result (λ fault. fault ≡ RunFault.OutOfMemory) }
 {
-    replay_detailed(rt, alloc, trace, settings, Detail::Basic, gate)
+    replay_detailed(rt, alloc, trace, settings, Verbosity::Basic, gate)
 }
 
-/// Replays a trace as `replay` does, with reports in as much detail as is asked for. Takes memory,
+/// Replays a trace as `replay` does, with reports of the verbosity asked for. Takes memory,
 /// and waits as `replay` does. This project's choice.
 pub fn replay_detailed<R: Threads + Wait + Sync, G: Gate + Sync>(
     rt: &R,
     alloc: Global,
     trace: &Trace,
     settings: Settings,
-    detail: Detail,
+    verbosity: Verbosity,
     gate: &G,
 ) -> Result<Replies, RunFault>
     ensures own { IfOk result (λ replies. IsReplay (limits_of settings) settings.workers
         trace.now.lines replies.answers.items) }
     ensures run { settings.workers ≡ 1 → IfOk result (λ replies. (last : Course) × Answers
         (begun (empty_machine (limits_of settings))) trace.now.lines replies.answers.items last) }
-    ensures detailed { IfOk result (λ replies. All (IsDetailed detail) replies.answers.items) }
+    ensures detailed { IfOk result (λ replies. All (IsDetailed verbosity) replies.answers.items) }
     ensures gated { OnOk result
         (AreGatedByTurn (G.told gate.now) settings.workers trace.now.lines) }
     ensures wanting { IfErr result IsWanting }
@@ -88,7 +88,7 @@ pub fn replay_detailed<R: Threads + Wait + Sync, G: Gate + Sync>(
 {
     // Room for all answers, so that no push takes memory once a step is done.
     let mut answers = Vec::with_capacity(alloc, trace.lines.as_slice().len())?;
-    replay_into(rt, alloc, trace, settings, detail, gate, &mut answers)?;
+    replay_into(rt, alloc, trace, settings, verbosity, gate, &mut answers)?;
     Ok(Replies { answers })
 }
 
@@ -101,11 +101,11 @@ pub fn replay_into<R: Threads + Wait + Sync, G: Gate + Sync, S: AnswerSink>(
     alloc: Global,
     trace: &Trace,
     settings: Settings,
-    detail: Detail,
+    verbosity: Verbosity,
     gate: &G,
     sink: &mut S,
 ) -> Result<(), RunFault>
-    ensures answers { OnOk result (Puts S.took (AreToTrace settings detail trace.now.lines) sink.old sink.new) }
+    ensures answers { OnOk result (Puts S.took (AreToTrace settings verbosity trace.now.lines) sink.old sink.new) }
     ensures gated { OnOk result
         (AreGatedByTurn (G.told gate.now) settings.workers trace.now.lines) }
     ensures wanting { IfErr result IsWanting }
@@ -113,7 +113,7 @@ pub fn replay_into<R: Threads + Wait + Sync, G: Gate + Sync, S: AnswerSink>(
         → IfErr result (λ fault. fault ≡ RunFault.OutOfMemory) }
 {
     let lines = trace.lines.as_slice();
-    let manner = Manner { gate, detail };
+    let manner = Manner { gate, verbosity };
     if settings.workers != 1 {
         return take_turns(rt, alloc, &manner, settings, lines, sink);
     }
@@ -131,7 +131,7 @@ fn take_turns<R: Threads + Wait + Sync, G: Gate + Sync, S: AnswerSink>(
     sink: &mut S,
 ) -> Result<(), RunFault>
     ensures answers { OnOk result (Puts S.took
-        (AreOfPhases settings manner.now.detail lines.now) sink.old sink.new) }
+        (AreOfPhases settings manner.now.verbosity lines.now) sink.old sink.new) }
     ensures gated { OnOk result
         (AreGatedByTurn (G.told manner.now.gate.now) settings.workers lines.now) }
     ensures wanting { IfErr result IsWanting }
@@ -154,12 +154,12 @@ fn answer_phases<R: Threads + Wait + Sync, G: Gate + Sync, S: AnswerSink>(
     requires workers { turn.old.workers ≡ settings.workers }
     requires phase { turn.old.phase ≡ 0 }
     ensures answers { OnOk result (Puts S.took
-        (AreOfPhases settings manner.now.detail lines.now) sink.old sink.new) }
+        (AreOfPhases settings manner.now.verbosity lines.now) sink.old sink.new) }
     ensures gated { OnOk result
         (AreGatedByTurn (G.told manner.now.gate.now) settings.workers lines.now) }
     ensures wanting { IfErr result IsWanting }
 {
-    let mut run = begin_run(alloc, settings, manner.detail)?;
+    let mut run = begin_run(alloc, settings, manner.verbosity)?;
     let mut at = 0;
     while at < lines.len() {
         let count = steps_first(&lines[at..]);
@@ -167,7 +167,7 @@ fn answer_phases<R: Threads + Wait + Sync, G: Gate + Sync, S: AnswerSink>(
         run = run_phase(rt, alloc, manner, turn, steps, run, sink)?;
         at += count;
         if at < lines.len() {
-            end_phase(alloc, turn, &run, manner.detail, &lines[at], sink)?;
+            end_phase(alloc, turn, &run, manner.verbosity, &lines[at], sink)?;
             at += 1;
         }
     }
@@ -179,17 +179,17 @@ fn end_phase<S: AnswerSink>(
     alloc: Global,
     turn: &mut Turn,
     run: &Metered,
-    detail: Detail,
+    verbosity: Verbosity,
     line: &Line,
     sink: &mut S,
 ) -> Result<(), AllocError>
     requires no_step { step_of line.now.command ≡ None }
     requires used { run.now.used ≡ used_words_of run.now.system }
-    requires kept { AreKept detail run.now.peaks }
-    ensures answered { OnOk result (Puts S.took (IsOfEnd detail run.now line.now) sink.old sink.new) }
+    requires kept { AreKept verbosity run.now.peaks }
+    ensures answered { OnOk result (Puts S.took (IsOfEnd verbosity run.now line.now) sink.old sink.new) }
     ensures turn { OnOk result (IsNextTurn turn.old turn.new) }
 {
-    answer_between(alloc, run, Some(run.used), detail, line, sink)?;
+    answer_between(alloc, run, Some(run.used), verbosity, line, sink)?;
     turn.go_on();
     Ok(())
 }

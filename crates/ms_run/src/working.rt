@@ -24,6 +24,25 @@ use std::sync::Wait;
 use std::thread;
 use std::thread::{Promise, Threads};
 
+/// What the workers of a phase have in common.
+#[derive(Drop)]
+pub(crate) struct Context<'a, R, G> {
+    /// What waits.
+    pub rt: &'a R,
+    /// What replies and results are taken from.
+    pub alloc: Global,
+    /// The pool behind its lock.
+    pub shared: &'a SharedPool,
+    /// The meter of the phase.
+    pub meter: &'a UsedMeter,
+    /// The words in use before the phase, which the gate learns.
+    pub before: u64,
+    /// The gate round each task.
+    pub gate: &'a G,
+    /// The lines of the phase.
+    pub lines: &'a [Line],
+}
+
 /// That a thread works the share of a phase's lines that was handed to it, and calls the gate for
 /// each task.
 struct WorkOf<'a, G> {
@@ -53,24 +72,28 @@ impl<'a, G: Gate> Promise<Share> for WorkOf<'a, G> {
 }
 
 /// Works all shares of a phase's lines, each by a thread. An error means that memory or a thread was
-/// wanting; then what was worked is lost. So many words were in use before, which the gate learns.
-/// Takes memory.
+/// wanting; then what was worked is lost. Takes memory.
 pub(crate) fn work_all<R: Threads + Wait + Sync, G: Gate + Sync>(
-    rt: &R,
-    alloc: Global,
-    shared: &SharedPool,
-    meter: &UsedMeter,
-    before: u64,
-    gate: &G,
-    lines: &[Line],
+    context: &Context<'_, R, G>,
     shares: Vec<Share>,
 ) -> Result<Vec<Share>, RunFault>
-    requires { All (IsReadyFor shared.now meter.now) shares.items }
-    ensures worked { IfOk result (λ done. AllWorked lines.now shares.items done.items) }
+    requires { All (IsReadyFor context.now.shared.now context.now.meter.now) shares.items }
+    ensures worked { IfOk result (λ done. AllWorked context.now.lines.now shares.items done.items) }
     ensures gated { OnOk result (All (λ (share : ShareOf).
-        AreTasksGated (G.told gate.now) share.worker (tasks_in lines.now share)) shares.items) }
+        AreTasksGated (G.told context.now.gate.now) share.worker (tasks_in context.now.lines.now share))
+        shares.items) }
     ensures wanting { IfErr result IsWanting }
 {
+    // A thread is handed these one by one: of a closure with a `Context` no clause would be known.
+    let Context {
+        rt,
+        alloc,
+        shared,
+        meter,
+        before,
+        gate,
+        lines,
+    } = *context;
     thread::scope(
         thread::scope_env(),
         rt,
@@ -97,7 +120,18 @@ pub(crate) fn work_all<R: Threads + Wait + Sync, G: Gate + Sync>(
                         ensures worked { IsWorked lines.entry.now share result }
                         ensures gated { AreTasksGated (G.told gate.entry.now) share.worker
                             (tasks_in lines.entry.now share) }
-                    { work(rt, alloc, shared, meter, before, gate, lines, share) },
+                    {
+                        let context = Context {
+                            rt,
+                            alloc,
+                            shared,
+                            meter,
+                            before,
+                            gate,
+                            lines,
+                        };
+                        work(&context, share)
+                    },
                 );
                 match started {
                     Ok(handle) => handles.push_reserved(handle),
@@ -119,20 +153,21 @@ pub(crate) fn work_all<R: Threads + Wait + Sync, G: Gate + Sync>(
 }
 
 /// Works a share of a phase's lines: each task between the gate's two calls.
-fn work<R: Wait, G: Gate>(
-    rt: &R,
-    alloc: Global,
-    shared: &SharedPool,
-    meter: &UsedMeter,
-    before: u64,
-    gate: &G,
-    lines: &[Line],
-    share: Share,
-) -> Share
-    requires { IsReadyFor shared.now meter.now share }
-    ensures worked { IsWorked lines.now share result }
-    ensures gated { AreTasksGated (G.told gate.now) share.worker (tasks_in lines.now share) }
+fn work<R: Wait, G: Gate>(context: &Context<'_, R, G>, share: Share) -> Share
+    requires { IsReadyFor context.now.shared.now context.now.meter.now share }
+    ensures worked { IsWorked context.now.lines.now share result }
+    ensures gated { AreTasksGated (G.told context.now.gate.now) share.worker
+        (tasks_in context.now.lines.now share) }
 {
+    let Context {
+        rt,
+        alloc,
+        shared,
+        meter,
+        before,
+        gate,
+        lines,
+    } = *context;
     let Share {
         worker,
         seat,

@@ -4,7 +4,7 @@
 ghost use Rattle.std.specs.Prelude.{◌≤◌};
 
 use super::same;
-use ms_answers::{Detail, SpaceTotals};
+use ms_answers::{SpaceTotals, Verbosity};
 use ms_base::{Policy, Reply, Settings};
 use ms_loaders::Replies;
 use ms_report::AnswerText;
@@ -91,13 +91,13 @@ fn replayed_into(
     requires few { workers ≤ 8 }
 {
     let settings = settings(workers);
-    let mut answers = AnswerText::new(String::new(rt.alloc()), false, Detail::Basic, settings);
+    let mut answers = AnswerText::new(String::new(rt.alloc()), false, Verbosity::Basic, settings);
     let replayed = replay_into(
         rt,
         rt.alloc(),
         trace,
         settings,
-        Detail::Basic,
+        Verbosity::Basic,
         &NoGate,
         &mut answers,
     );

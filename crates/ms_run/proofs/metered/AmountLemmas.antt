@@ -30,7 +30,7 @@ use Rattle.ms_pool.specs.LimitCounts.{limit_counts}
 use Rattle.ms_pool.specs.declared.pool.counts.LimitCounts.{LimitCounts}
 use Rattle.ms_loader.specs.Amounts.{amounts_by, amounts_if, amounts_of, no_amounts}
 use Rattle.ms_loader.specs.declared.amounts.Amounts.{Amounts}
-use Rattle.ms_answers.specs.declared.details.Detail.TheVariants.{Full}
+use Rattle.ms_answers.specs.declared.verbosity.Verbosity.TheVariants.{Full}
 use Rattle.ms_answers.specs.declared.replies.Answer.{Answer}
 use Rattle.ms_run.specs.Counting.{HasTaken}
 use Rattle.ms_run.specs.Course.{Course}

@@ -19,7 +19,7 @@ use Rattle.ms_base.specs.Totals.{used_of}
 use Rattle.ms_base.specs.Transition.{Transition, ServesStep}
 use Rattle.ms_base.proofs.entries.LookupLemmas.{named_changed_same, named_new_same}
 use Rattle.ms_loader_map.specs.Used.{used_by, used_if}
-use Rattle.ms_answers.specs.declared.details.Detail.{Detail}
+use Rattle.ms_answers.specs.declared.verbosity.Verbosity.{Verbosity}
 use Rattle.ms_loaders.proofs.sums.UsedLemmas.{used_fits}
 use Rattle.ms_run.specs.declared.alone.Metered.{Metered}
 use Rattle.ms_run.specs.Counting.{IsCounted, used_around}
@@ -110,13 +110,13 @@ step_moves old new step (At start) told was good = served_moves old new step (At
 step_moves old new step (Value value) told was good = served_moves old new step (Value value) told.0 was good
 
 -- The count follows: it adds what the loader has after the step, and takes off what it had before.
-pub counted_use : (counts : Bool) (detail : Detail) (old : Metered) (new : Machine) (step : Step) (reply : Reply)
-    (before after used : ℕ) → IsCounted counts detail old → Transition old.system step reply new → IsGood new
+pub counted_use : (counts : Bool) (verbosity : Verbosity) (old : Metered) (new : Machine) (step : Step) (reply : Reply)
+    (before after used : ℕ) → IsCounted counts verbosity old → Transition old.system step reply new → IsGood new
     → (IsTrue counts → before ≡ used_around step old.system.loaders)
     → (IsTrue counts → after ≡ used_around step new.loaders) → before < 2 ^ 64
     → used ≡ ((old.used + after) % 2 ^ 64 + (2 ^ 64 - before)) % 2 ^ 64
     → IsTrue counts → used ≡ used_words_of new
-counted_use counts detail old new step reply before after used was told good first last fits sum looks = omega (
+counted_use counts verbosity old new step reply before after used was told good first last fits sum looks = omega (
   arith,
   sum,
   fits,
@@ -128,10 +128,10 @@ counted_use counts detail old new step reply before after used was told good fir
   used_fits old.system was.good,
 )
 
-pub counted_on : (counts : Bool) (detail : Detail) (old new : Metered) → IsCounted counts detail old → IsGood new.system
+pub counted_on : (counts : Bool) (verbosity : Verbosity) (old new : Metered) → IsCounted counts verbosity old → IsGood new.system
     → (IsTrue counts → new.used ≡ used_words_of new.system) → is_some new.peaks ≡ is_some old.peaks
-    → IsCounted counts detail new
-counted_on counts detail old new was good used kept = record {
+    → IsCounted counts verbosity new
+counted_on counts verbosity old new was good used kept = record {
   good = good;
   used = used;
   kept = kept ∙ was.kept;

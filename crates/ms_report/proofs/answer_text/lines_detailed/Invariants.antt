@@ -5,4 +5,4 @@ use Rattle.ms_report.proofs.answer_text.lines_detailed.Given as goal
 -- the text tells the first answers
 abbrev pub invariant-loop-answer : goal.invariant-loop-answer
 invariant-loop-answer l =
-    Tells (no_answer l.addresses l.fn.detail l.settings) l.text (take l.answer-index l.replies.answers.items)
+    Tells (no_answer l.addresses l.fn.verbosity l.settings) l.text (take l.answer-index l.replies.answers.items)

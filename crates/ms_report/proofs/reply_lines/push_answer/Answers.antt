@@ -8,7 +8,7 @@ use Rattle.ms_report.proofs.reply_lines.push_answer.Goals as goal
 pub returns-in_ok-push_detailed : goal.returns-in_ok-push_detailed
 returns-in_ok-push_detailed c =
     let report : List ℕ =
-    detailed_text c.args.detail c.args.settings.now c.args.refusals.now (sums_in c.deref.result.now)
+    detailed_text c.args.verbosity c.args.settings.now c.args.refusals.now (sums_in c.deref.result.now)
     (told_in c.deref.result.now) c.deref.result.now.peaks in
     rw (c.in-Some.is, ← c.deref.ensures)
     (c.in_ok-push_detailed.ensures

@@ -15,6 +15,6 @@ answer_lines-requires g c = record {
 
 pub returns-clause-answers : goal.returns-clause-answers
 returns-clause-answers g c = on_ok_weaker c.answer_lines.result (λ answered.
-    all_answered g.S.AnswerSink.took (limits_of c.args.settings) c.args.manner.now.detail c.args.lines.now _ _ c.args.sink.now
+    all_answered g.S.AnswerSink.took (limits_of c.args.settings) c.args.manner.now.verbosity c.args.lines.now _ _ c.args.sink.now
     c.answer_lines.new.sink c.in_ok-run.ensures.taken answered)
     c.answer_lines.ensures.answers

@@ -7,25 +7,25 @@ use Rattle.ms_run.proofs.alone.answer_line.Goals as goal
 
 pub returns-in_default-clause-answered : goal.returns-in_default-clause-answered
 returns-in_default-clause-answered g c =
-    end_answered g.S.AnswerSink.took c.args.manner.now.detail c.args.run.now c.args.line.now c.args.sink.now _
+    end_answered g.S.AnswerSink.took c.args.manner.now.verbosity c.args.run.now c.args.line.now c.args.sink.now _
     (none_asked c.args.line.now.command (λ step is. c.in_default.not-Step step (c.command.ensures ∙ is)))
     c.in_ok-answer_between.ensures
 
 pub raise-requires : goal.raise-requires
 raise-requires g c = λ kept.
-    counted_use c.args.counts c.args.manner.now.detail c.args.run.now _ c.in-Step.step c.step-reply.result c.used_by-before.result
+    counted_use c.args.counts c.args.manner.now.verbosity c.args.run.now _ c.in-Step.step c.step-reply.result c.used_by-before.result
     c.used_by-after.result _ c.requires c.step-reply.ensures.step c.step-reply.ensures.good c.used_by-before.ensures
     c.used_by-after.ensures c.used_by-before.type_inv refl (c.requires.counting (sym c.requires.kept ∙ kept))
 
 pub returns-clause-answered : goal.returns-clause-answered
 returns-clause-answered g c =
-    step_answered g.S.AnswerSink.took c.args.manner.now.detail c.args.run.now _ c.args.line.now c.in-Step.step _ c.args.sink.now
+    step_answered g.S.AnswerSink.took c.args.manner.now.verbosity c.args.run.now _ c.args.line.now c.in-Step.step _ c.args.sink.now
     c.put_reply.new.sink (sym c.command.ensures ∙ c.in-Step.is) c.in_ok-put_reply.ensures c.number-number.ensures refl c.step-reply.ensures.step c.raise.ensures.peaks
 
 pub returns-clause-counted : goal.returns-clause-counted
 returns-clause-counted g c =
-    counted_on c.args.counts c.args.manner.now.detail c.args.run.now _ c.requires c.step-reply.ensures.good
-    (counted_use c.args.counts c.args.manner.now.detail c.args.run.now _ c.in-Step.step c.step-reply.result c.used_by-before.result
+    counted_on c.args.counts c.args.manner.now.verbosity c.args.run.now _ c.requires c.step-reply.ensures.good
+    (counted_use c.args.counts c.args.manner.now.verbosity c.args.run.now _ c.in-Step.step c.step-reply.result c.used_by-before.result
     c.used_by-after.result _ c.requires c.step-reply.ensures.step c.step-reply.ensures.good c.used_by-before.ensures
     c.used_by-after.ensures c.used_by-before.type_inv refl) c.raise.ensures.kept
 

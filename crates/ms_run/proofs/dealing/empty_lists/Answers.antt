@@ -10,7 +10,7 @@ push_reserved-requires c = omega (arith, c.loop-test.true, c.loop.invariant.1, c
 
 pub loop-preserved : goal.loop-preserved
 loop-preserved c = (
-  empty_more c.loop.lists.items _ _ c.loop.invariant.0 c.push_reserved.ensures.items c.new.ensures.items,
+  empty_more c.loop.lists.items _ _ c.loop.invariant.0 c.push_reserved.ensures.items c.in_ok-list.ensures.items,
   omega (arith, c.push_reserved.ensures.len, c.loop.invariant.1),
   omega (arith, c.push_reserved.ensures.capacity, c.loop.invariant.2),
 )

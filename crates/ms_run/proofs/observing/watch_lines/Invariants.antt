@@ -1,6 +1,6 @@
 use Rattle.std.proofs.Common.{◌≡◌, take, true}
 use Rattle.ms_loader.specs.Amounts.{amounts_of}
-use Rattle.ms_answers.specs.declared.details.Detail.TheVariants.{Full}
+use Rattle.ms_answers.specs.declared.verbosity.Verbosity.TheVariants.{Full}
 use Rattle.ms_run.specs.Counting.{IsCounted}
 use Rattle.ms_run.specs.Observing.{PutsAndSees, WatchesLines}
 use Rattle.ms_run.proofs.observing.watch_lines.Given as goal

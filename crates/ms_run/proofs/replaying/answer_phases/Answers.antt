@@ -19,7 +19,7 @@ loop-at-init g c = record {
     (
       phases_start (g.G.Gate.told c.args.manner.now.gate.now) c.args.settings c.args.lines.now _ c.args.turn.now c.in_ok-run.ensures.taken
           c.requires.numbered c.requires.workers c.requires.phase c.args.settings.workers_some,
-      All-nil (IsDetailed c.args.manner.now.detail),
+      All-nil (IsDetailed c.args.manner.now.verbosity),
     ),
   );
   counted = record {
@@ -65,8 +65,8 @@ loop-at-preserved-then-at-lines g c = record {
           phases_next (g.G.Gate.told c.args.manner.now.gate.now) _ _ _ _ _ c.args.lines.now _ _ (so_far.0 ++ worked.0) told more c.if-at-lines.true
               (λ course taken. subst (λ (line : Line). IsEnd course line told) c.index-lines-at.is (ended.2.3 course taken))
               c.in_ok-end_phase.ensures.turn,
-          one_detailed c.args.manner.now.detail (so_far.0 ++ worked.0) told ended.2.2
-              (All-append (IsDetailed c.args.manner.now.detail) so_far.0 worked.0 so_far.2.1 worked.2.0),
+          one_detailed c.args.manner.now.verbosity (so_far.0 ++ worked.0) told ended.2.2
+              (All-append (IsDetailed c.args.manner.now.verbosity) so_far.0 worked.0 so_far.2.1 worked.2.0),
         ),
       );
   counted = c.in_ok-run-2.ensures.counted;
@@ -85,7 +85,7 @@ loop-at-preserved g c = record {
               so_far.0 worked.0 so_far.2.0 c.steps_first-count.ensures.within worked.2.1 c.in_ok-run-2.ensures.turn
               (steps_there c.args.lines.now c.loop-at.at c.steps_first-count.result c.steps_first-count.ensures.steps)
               c.in_ok-run-2.ensures.gated,
-          All-append (IsDetailed c.args.manner.now.detail) so_far.0 worked.0 so_far.2.1 worked.2.0,
+          All-append (IsDetailed c.args.manner.now.verbosity) so_far.0 worked.0 so_far.2.1 worked.2.0,
         ),
       );
   counted = c.in_ok-run-2.ensures.counted;

@@ -13,8 +13,8 @@ abbrev pub invariant-loop-at : goal.invariant-loop-at
 invariant-loop-at g l = record {
   phases : Puts g.S.AnswerSink.took (λ answers.
       PhasesFirst (g.G.Gate.told l.manner.gate.now) l.fn.settings.workers (empty_machine (limits_of l.fn.settings)) l.lines l.at answers l.run l.turn
-      × All (IsDetailed l.manner.detail) answers) l.fn.sink l.sink;
-  counted : IsCounted true l.manner.detail l.run;
+      × All (IsDetailed l.manner.verbosity) answers) l.fn.sink l.sink;
+  counted : IsCounted true l.manner.verbosity l.run;
 }
 
 abbrev pub decreases-loop-at : goal.decreases-loop-at

@@ -29,6 +29,6 @@ returns-clause-run g c = λ one.
 pub returns-clause-detailed : goal.returns-clause-detailed
 returns-clause-detailed g c =
     let told = c.in_ok-replay_into.ensures.answers in
-    subst (λ (l : List Answer). All (IsDetailed c.args.detail) l)
+    subst (λ (l : List Answer). All (IsDetailed c.args.verbosity) l)
     (none_before c.in_ok-answers.answers.items told.0 _ c.in_ok-answers.ensures.items
     (told.1 c.in_ok-answers.answers [] (sym (append-nil c.in_ok-answers.answers.items)))) told.2.detailed

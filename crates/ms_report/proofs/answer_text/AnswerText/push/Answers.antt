@@ -10,7 +10,7 @@ count-requires c =
 
 pub invariant_of-self : goal.invariant_of-self
 invariant_of-self c =
-    few_still (string_bytes c.self.inside.text) _ c.self.inside.addresses c.self.inside.detail c.self.inside.settings
+    few_still (string_bytes c.self.inside.text) _ c.self.inside.addresses c.self.inside.verbosity c.self.inside.settings
     c.self.inside.refusals _ c.args.answer.now c.self.invariant c.in-Ok.ensures c.count.ensures
 
 pub returns-in-Ok-clause-told : goal.returns-in-Ok-clause-told

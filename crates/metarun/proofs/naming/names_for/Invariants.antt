@@ -1,7 +1,0 @@
-use Rattle.std.proofs.Common.{◌≡◌, ◌++◌, drop, map}
-use Rattle.metarun.specs.Naming.{line_of, made_in}
-use Rattle.metarun.proofs.naming.names_for.Given as goal
-
--- The lines so far, then the later `new` lines.
-abbrev pub invariant-loop-line : goal.invariant-loop-line
-invariant-loop-line l = map line_of l.named.items ++ made_in (drop l.line-index l.lines) ≡ made_in l.lines
