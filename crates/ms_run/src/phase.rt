@@ -17,7 +17,6 @@ ghost use Rattle.ms_shared.specs.MeterRule.{MeterSeatState};
 ghost use Rattle.ms_run.specs.Counting.{IsCounted};
 ghost use Rattle.ms_run.specs.Joined.{IsEnded};
 ghost use Rattle.ms_run.specs.Gating.{AreGated};
-ghost use Rattle.ms_answers.specs.declared.verbosity.Verbosity.{Verbosity as VerbosityOf};
 ghost use Rattle.ms_run.specs.Shares.{AreApart, AreSteps, Position, StandOver};
 ghost use Rattle.ms_run.specs.Metering.{amount_of, meter_of, used_words_of};
 ghost use Rattle.ms_run.specs.Turn.{worker_in, HaveOwnShares, IsSameTurn, TurnState};
@@ -43,7 +42,6 @@ use std::thread::Threads;
 /// Runs a phase, and puts the answers to its lines into a sink.
 pub fn run_phase<R: Threads + Wait + Sync, G: Gate + Sync, S: AnswerSink>(
     rt: &R,
-    alloc: Global,
     manner: &Manner<'_, G>,
     turn: &mut Turn,
     lines: &[Line],
@@ -65,13 +63,19 @@ pub fn run_phase<R: Threads + Wait + Sync, G: Gate + Sync, S: AnswerSink>(
         let mut run = run;
         // Into a list, so that the loop that puts each answer into the sink has one user, and is
         // inlined there.
-        let mut answers = Vec::new(alloc);
-        let worker = turn.worker(0);
-        answer_lines(alloc, manner, worker, true, lines, &mut run, &mut answers)?;
+        let mut answers = Vec::new(manner.alloc);
+        let alone = Manner {
+            alloc: manner.alloc,
+            worker: turn.worker(0),
+            counts: true,
+            gate: manner.gate,
+            verbosity: manner.verbosity,
+        };
+        answer_lines(&alone, lines, &mut run, &mut answers)?;
         put_all(answers, sink)?;
         return Ok(run);
     }
-    run_shares(rt, alloc, manner.gate, turn, lines, run, sink)
+    run_shares(rt, manner, turn, lines, run, sink)
 }
 
 /// Puts answers into a sink, in their order.
@@ -87,8 +91,7 @@ fn put_all<S: AnswerSink>(answers: Vec<Answer>, sink: &mut S) -> Result<(), Allo
 /// Runs a phase of several workers with lines, each with its share.
 fn run_shares<R: Threads + Wait + Sync, G: Gate + Sync, S: AnswerSink>(
     rt: &R,
-    alloc: Global,
-    gate: &G,
+    manner: &Manner<'_, G>,
     turn: &Turn,
     lines: &[Line],
     run: Metered,
@@ -98,12 +101,11 @@ fn run_shares<R: Threads + Wait + Sync, G: Gate + Sync, S: AnswerSink>(
     requires used { run.used ≡ used_words_of run.system }
     requires steps { AreSteps lines.now }
     requires shared { HaveOwnShares turn.now lines.now }
-    ensures phase { (before : TurnState) (verbosity : VerbosityOf) → IsSameTurn before turn.now
-        → IfOk result (λ after. Puts S.took
-        (AreOfPhase verbosity (worker_in before) run lines.now after) sink.old sink.new) }
-    ensures gated { OnOk result (AreGated (G.told gate.now) (worker_in turn.now) lines.now) }
-    ensures counted { (verbosity : VerbosityOf) → AreKept verbosity run.peaks
-        → IfOk result (IsCounted true verbosity) }
+    ensures phase { (before : TurnState) → IsSameTurn before turn.now → IfOk result (λ after. Puts S.took
+        (AreOfPhase manner.now.verbosity (worker_in before) run lines.now after) sink.old sink.new) }
+    ensures gated { OnOk result (AreGated (G.told manner.now.gate.now) (worker_in turn.now) lines.now) }
+    ensures counted { AreKept manner.now.verbosity run.peaks
+        → IfOk result (IsCounted true manner.now.verbosity) }
     ensures wanting { IfErr result IsWanting }
 {
     let Metered {
@@ -112,6 +114,7 @@ fn run_shares<R: Threads + Wait + Sync, G: Gate + Sync, S: AnswerSink>(
         mut peaks,
     } = run;
     let (pool, loaders) = system.into_parts();
+    let alloc = manner.alloc;
     let (shared, shares, meter) = deal(alloc, turn, lines, pool, loaders)?;
     let context = Context {
         rt,
@@ -119,7 +122,7 @@ fn run_shares<R: Threads + Wait + Sync, G: Gate + Sync, S: AnswerSink>(
         shared: &shared,
         meter: &meter,
         before: used,
-        gate,
+        gate: manner.gate,
         lines,
     };
     let shares = work_all(&context, shares)?;

@@ -113,18 +113,23 @@ pub fn replay_into<R: Threads + Wait + Sync, G: Gate + Sync, S: AnswerSink>(
         → IfErr result (λ fault. fault ≡ RunFault.OutOfMemory) }
 {
     let lines = trace.lines.as_slice();
-    let manner = Manner { gate, verbosity };
+    let manner = Manner {
+        alloc,
+        worker: 0,
+        counts: true,
+        gate,
+        verbosity,
+    };
     if settings.workers != 1 {
-        return take_turns(rt, alloc, &manner, settings, lines, sink);
+        return take_turns(rt, &manner, settings, lines, sink);
     }
-    answer_alone(alloc, &manner, settings, lines, sink)?;
+    answer_alone(&manner, settings, lines, sink)?;
     Ok(())
 }
 
 /// Answers the lines phase by phase, by turns from the first phase's on.
 fn take_turns<R: Threads + Wait + Sync, G: Gate + Sync, S: AnswerSink>(
     rt: &R,
-    alloc: Global,
     manner: &Manner<'_, G>,
     settings: Settings,
     lines: &[Line],
@@ -136,14 +141,13 @@ fn take_turns<R: Threads + Wait + Sync, G: Gate + Sync, S: AnswerSink>(
         (AreGatedByTurn (G.told manner.now.gate.now) settings.workers lines.now) }
     ensures wanting { IfErr result IsWanting }
 {
-    let mut turn = Turn::new(alloc, settings, lines)?;
-    answer_phases(rt, alloc, manner, settings, lines, &mut turn, sink)
+    let mut turn = Turn::new(manner.alloc, settings, lines)?;
+    answer_phases(rt, manner, settings, lines, &mut turn, sink)
 }
 
 /// Answers the lines phase by phase, from a system without loaders on.
 fn answer_phases<R: Threads + Wait + Sync, G: Gate + Sync, S: AnswerSink>(
     rt: &R,
-    alloc: Global,
     manner: &Manner<'_, G>,
     settings: Settings,
     lines: &[Line],
@@ -159,15 +163,15 @@ fn answer_phases<R: Threads + Wait + Sync, G: Gate + Sync, S: AnswerSink>(
         (AreGatedByTurn (G.told manner.now.gate.now) settings.workers lines.now) }
     ensures wanting { IfErr result IsWanting }
 {
-    let mut run = begin_run(alloc, settings, manner.verbosity)?;
+    let mut run = begin_run(manner.alloc, settings, manner.verbosity)?;
     let mut at = 0;
     while at < lines.len() {
         let count = steps_first(&lines[at..]);
         let steps = &lines[at..at + count];
-        run = run_phase(rt, alloc, manner, turn, steps, run, sink)?;
+        run = run_phase(rt, manner, turn, steps, run, sink)?;
         at += count;
         if at < lines.len() {
-            end_phase(alloc, turn, &run, manner.verbosity, &lines[at], sink)?;
+            end_phase(manner, turn, &run, &lines[at], sink)?;
             at += 1;
         }
     }
@@ -175,21 +179,20 @@ fn answer_phases<R: Threads + Wait + Sync, G: Gate + Sync, S: AnswerSink>(
 }
 
 /// Ends a phase: the line that asks no step is answered, and the next phase's turn comes.
-fn end_phase<S: AnswerSink>(
-    alloc: Global,
+fn end_phase<G, S: AnswerSink>(
+    manner: &Manner<'_, G>,
     turn: &mut Turn,
     run: &Metered,
-    verbosity: Verbosity,
     line: &Line,
     sink: &mut S,
 ) -> Result<(), AllocError>
     requires no_step { step_of line.now.command ≡ None }
     requires used { run.now.used ≡ used_words_of run.now.system }
-    requires kept { AreKept verbosity run.now.peaks }
-    ensures answered { OnOk result (Puts S.took (IsOfEnd verbosity run.now line.now) sink.old sink.new) }
+    requires kept { AreKept manner.now.verbosity run.now.peaks }
+    ensures answered { OnOk result (Puts S.took (IsOfEnd manner.now.verbosity run.now line.now) sink.old sink.new) }
     ensures turn { OnOk result (IsNextTurn turn.old turn.new) }
 {
-    answer_between(alloc, run, Some(run.used), verbosity, line, sink)?;
+    answer_between(manner, run, Some(run.used), line, sink)?;
     turn.go_on();
     Ok(())
 }

@@ -10,7 +10,7 @@ pub loop-line-init : goal.loop-line-init
 loop-line-init g c = record {
   answers = none_answered g.S.AnswerSink.took c.args.manner.now.verbosity c.args.run.now c.args.sink.now;
   counted = c.requires;
-  gated = none_gated (g.G.Gate.told c.args.manner.now.gate.now) (λ name. c.args.worker);
+  gated = none_gated (g.G.Gate.told c.args.manner.now.gate.now) (λ name. c.args.manner.now.worker);
 }
 
 pub loop-line-preserved : goal.loop-line-preserved
@@ -22,7 +22,7 @@ loop-line-preserved g c = record {
       c.answer_line.new.run) c.loop-line.sink c.answer_line.new.sink) c.line-item.is
       (line_answered g.S.AnswerSink.took c.args.manner.now.verbosity _ _ _ _ _ _ c.in_ok-answer_line.ensures.answered));
   counted = c.in_ok-answer_line.ensures.counted;
-  gated = more_gated (g.G.Gate.told c.args.manner.now.gate.now) (λ name. c.args.worker) c.args.lines.now
+  gated = more_gated (g.G.Gate.told c.args.manner.now.gate.now) (λ name. c.args.manner.now.worker) c.args.lines.now
       c.loop-line.line-index _ _ c.loop-line.invariant.gated c.loop-line-test.true c.line-item.is
       c.in_ok-answer_line.ensures.gated;
 }
@@ -40,5 +40,5 @@ returns-clause-counted g c = c.loop-line.invariant.counted
 
 pub returns-clause-gated : goal.returns-clause-gated
 returns-clause-gated g c =
-    all_gated (g.G.Gate.told c.args.manner.now.gate.now) (λ name. c.args.worker) c.args.lines.now c.loop-line.line-index
+    all_gated (g.G.Gate.told c.args.manner.now.gate.now) (λ name. c.args.manner.now.worker) c.args.lines.now c.loop-line.line-index
     c.loop-line.invariant.gated (omega (arith, c.loop-line-test.false, c.loop-line.auto.line-index-end))

@@ -8,6 +8,6 @@ use Rattle.ms_run.proofs.alone.answer_lines.Given as goal
 abbrev pub invariant-loop-line : goal.invariant-loop-line
 invariant-loop-line g l = record {
   answers : Puts g.S.AnswerSink.took (AreOfLines l.manner.verbosity l.fn.run (take l.line-index l.lines) l.run) l.fn.sink l.sink;
-  counted : IsCounted l.counts l.manner.verbosity l.run;
-  gated : AreGated (g.G.Gate.told l.manner.gate.now) (λ name. l.worker) (take l.line-index l.lines);
+  counted : IsCounted l.manner.counts l.manner.verbosity l.run;
+  gated : AreGated (g.G.Gate.told l.manner.gate.now) (λ name. l.manner.worker) (take l.line-index l.lines);
 }

@@ -24,7 +24,7 @@ returns-then-shares-eq1-clause-phase g c =
     )
 
 pub returns-clause-phase : goal.returns-clause-phase
-returns-clause-phase g c = c.run_shares.ensures.phase c.args.turn.now c.args.manner.now.verbosity (record {
+returns-clause-phase g c = c.run_shares.ensures.phase c.args.turn.now (record {
   first = c.activate.ensures.first;
   phase = c.activate.ensures.phase;
   workers = c.activate.ensures.workers;
@@ -51,4 +51,4 @@ returns-clause-gated g c =
     }) gated) c.run_shares.ensures.gated
 
 pub returns-clause-counted : goal.returns-clause-counted
-returns-clause-counted g c = c.run_shares.ensures.counted c.args.manner.now.verbosity c.requires.counted.kept
+returns-clause-counted g c = c.run_shares.ensures.counted c.requires.counted.kept

@@ -59,12 +59,12 @@ end_shares-requires-clause-count g c =
     ∙ sym (same_count _ _ _ c.in_ok-shares.ensures.worked) ∙ sym c.in_ok-shares.shares.ok.0
 
 pub returns-clause-phase : goal.returns-clause-phase
-returns-clause-phase g c = λ before verbosity same.
+returns-clause-phase g c = λ before same.
     let merged = c.in_ok-merge.ensures in (
       merged.0,
       merged.1,
       (
-        said_detailed verbosity c.args.lines.now merged.0 merged.2.0 merged.2.1,
+        said_detailed c.args.manner.now.verbosity c.args.lines.now merged.0 merged.2.0 merged.2.1,
         phase_added (worker_in before) c.args.lines.now merged.0 c.args.run _
             (ended before c.args.turn.now c.in_ok-shared.shared c.in_ok-shared.shares.items
             c.in_ok-shares.shares.items c.args.lines.now
@@ -94,7 +94,7 @@ raise-requires g c = λ kept.
     c.in_ok-system.ensures.amount c.in_ok-system.ensures.gathered.used c.in_ok-system.ensures.gathered.good
 
 pub returns-clause-counted : goal.returns-clause-counted
-returns-clause-counted g c = λ verbosity kept. record {
+returns-clause-counted g c = λ kept. record {
   good = c.in_ok-system.ensures.gathered.good;
   used = λ counts. used_after c.in_ok-shared.meter _ c.args.lines.now c.in_ok-shared.shares.items
       c.in_ok-shares.shares.items
@@ -109,7 +109,7 @@ returns-clause-counted g c = λ verbosity kept. record {
 
 pub returns-clause-gated : goal.returns-clause-gated
 returns-clause-gated g c =
-    shares_gated (g.G.Gate.told c.args.gate.now) (worker_in c.args.turn.now)
+    shares_gated (g.G.Gate.told c.args.manner.now.gate.now) (worker_in c.args.turn.now)
     (position_for (position_in c.args.turn.now) c.args.lines.now) c.in_ok-shared.shared c.in_ok-shared.shares.items
     c.args.lines.now c.into_parts-pool.result.1 c.in_ok-shared.ensures.dealt c.in_ok-shared.ensures.workers.workers
     c.in_ok-shares.ensures.gated
