@@ -83,6 +83,20 @@ pub record MayPlace (books : BooksView) (level n : ℕ) : Type 0 where
   pub room : 0 < books.room
   pub spare_tops : 0 < books.spare_tops
 
+-- Or one in a free block or in the current chunk, whose rest may be a free block more.
+pub record MayHold (books : BooksView) (n : ℕ) : Type 0 where
+  pub some : 2 ≤ n
+  pub fits : n ≤ size_of 0
+  pub room : 0 < books.room
+  pub ordered : books.came ≡ 0
+
+-- What whoever has a source serve a placing has to see to.
+pub record CanPlace {S : Type 0} (serves : S → AccountState → Type 0) (source : S) (books : BooksView)
+    (wanted most n : ℕ) : Type 0 where
+  pub served : serves source (account_in books)
+  pub levels : wanted ≤ most
+  pub may : MayPlace books most n
+
 -- What that leaves: the block's words await it, the chunks are an account's, and at most one more
 -- free block is kept; a refusal changes nothing.
 pub record Leaves (old : BooksView) (n : ℕ) (result : Result ℕ Refusal) (new : BooksView) : Type 0 where
@@ -99,6 +113,12 @@ pub record MayGrow (state : ArenaState) (chunk : Chunk) (total : ℕ) : Type 0 w
   pub current_is : current state ≡ Some chunk
   pub more : current_top state + 2 ≤ total
   pub small : total ≤ 2 ^ 40
+
+-- What whoever has a source grow it has to see to.
+pub record CanReach {S : Type 0} (serves : S → AccountState → Type 0) (source : S) (books : BooksView) (chunk : Chunk)
+    (total : ℕ) : Type 0 where
+  pub served : serves source (account_in books)
+  pub may : MayGrow books.state chunk total
 
 -- The current chunk grew to reach so many words, and its top is there now.
 pub record HasGrown {S : Type 0} (grew : GrowRelation S) (policy : Policy) (old : BooksView) (chunk : Chunk)

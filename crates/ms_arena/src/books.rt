@@ -20,7 +20,7 @@ ghost use Rattle.ms_base.specs.Totals.{used_of, kept_of};
 ghost use Rattle.ms_blocks.specs.FreeBlocks.{MayBeKept, run_of};
 ghost use Rattle.ms_pool.specs.Account.{AreChunks};
 ghost use Rattle.ms_pool.specs.Source.{LeavesRest, IsTakeRefusal};
-ghost use Rattle.ms_arena.specs.Books.{BooksView, Awaits, AwaitsBlock, HasGrown, HasTaken, Leaves, MayGrow, MayPlace};
+ghost use Rattle.ms_arena.specs.Books.{Awaits, AwaitsBlock, BooksView, CanPlace, CanReach, HasGrown, HasTaken, Leaves, MayHold};
 ghost use Rattle.ms_arena.specs.Books.{IsCurrent, PlacesFree, MayRetire, StayCounted, tops_retired, kept_retired};
 ghost use Rattle.ms_arena.specs.Books.{account_in};
 
@@ -199,10 +199,7 @@ impl Books {
     /// best, whose rest of at least two words stays; else at the top of the current chunk.
     #[inline(always)]
     pub(crate) fn place(&mut self, n: u64) -> Option<u64>
-        requires some { 2 ≤ n }
-        requires fits { n ≤ size_of 0 }
-        requires room { 0 < self.old.room }
-        requires ordered { self.old.came ≡ 0 }
+        requires { MayHold self.old n }
         ensures placed { placed self.old.state n
             ≡ option_map (λ start. (start, self.new.state)) result }
         ensures awaits { IfSome result
@@ -236,8 +233,7 @@ impl Books {
         total: u64,
         may_enlarge: bool,
     ) -> Result<(), Refusal>
-        requires served { S.serves source.old (account_in self.old) }
-        requires may { MayGrow self.old.state chunk total }
+        requires { CanReach S.serves source.old self.old chunk total }
         ensures served { S.serves source.new (account_in self.new) }
         ensures rest { LeavesRest S.serves S.opened S.limits self.old.owner source.old source.new }
         ensures grown { OnOk result (HasGrown S.grew (S.limits source.old).policy self.old chunk
@@ -266,9 +262,7 @@ impl Books {
         most: Level,
         n: u64,
     ) -> Result<u64, Refusal>
-        requires served { S.serves source.old (account_in self.old) }
-        requires levels { wanted ≤ most }
-        requires may { MayPlace self.old most n }
+        requires { CanPlace S.serves source.old self.old wanted most n }
         ensures served { S.serves source.new (account_in self.new) }
         ensures rest { LeavesRest S.serves S.opened S.limits self.old.owner source.old source.new }
         ensures taken { IfOk result (λ start. HasTaken S.took (S.limits source.old).policy self.old

@@ -79,10 +79,8 @@ fn take_at<A: Allocator>(
     class: usize,
     words: u64,
 ) -> Option<Box<Fork<A>, A>>
-    requires trees { AreByClass some.old trees.old }
-    requires ranked { IsRanked (all_of trees.old) }
-    requires within { class < 64 }
-    requires before { first_fit (all_of (take class trees.old)) words ≡ None }
+    requires trees { AreByClass some.old trees.old × IsRanked (all_of trees.old) }
+    requires before { (class < 64) × (first_fit (all_of (take class trees.old)) words ≡ None) }
     ensures trees { AreByClass some.new trees.new }
     ensures found { IfSome result (λ fork. first_fit (all_of trees.old) words ≡ Some fork.value.block) }
     ensures left { OnSome result (all_of trees.new ≡ without_fit (all_of trees.old) words) }

@@ -2,7 +2,7 @@
 -- leaves are not kept: they are the free parts of the root that the lent leaves leave over.
 use Rattle.std.specs.Prelude.{◌≡◌, ℕ, ◌+◌, ◌-◌, ◌<◌, ◌≤◌, Bool, not, cond, ◌&&◌, ◌==◌, nat_le, nat_lt, List, [], ◌∷◌}
 use Rattle.std.specs.Prelude.{map, Some, IsTrue, IsFalse}
-use Rattle.std.specs.Prelude.{Result, OnOk, IfErr}
+use Rattle.std.specs.Prelude.{◌↔◌, Result, IsOk, OnOk, IfErr}
 use Rattle.std.specs.Int.{bit_at}
 use Rattle.std.specs.List.{AllByRecursion, list_any, filter, find}
 use Rattle.ms_base.specs.declared.span.Chunk.{Chunk}
@@ -93,6 +93,10 @@ parent_of part = record { start = part.start; level = part.level - 1 }
 abbrev pub leaf_of : Span → ℕ → ℕ → LentLeaf
 leaf_of part owner front = record { start = part.start; level = part.level; owner = owner; front = front }
 
+-- A front has a word at least, and so many at most.
+abbrev pub IsFront : ℕ → ℕ → Type 0
+IsFront most front = (0 < front) × (front ≤ most)
+
 -- Why a part isn't lent: it lies in no free leaf, or it lies in one and memory is wanting.
 abbrev pub IsCarveRefusal : Span → List Span → Refusal → Type 0
 IsCarveRefusal part free (NoRoom level) = (level ≡ part.level) × IsFalse (fits_in part free)
@@ -104,6 +108,12 @@ IsCarveRefusal part free _ = ⊥
 pub record CarveAnswers {A : Type 0} (part : Span) (free : List Span) (result : Result A Refusal) : Type 0 where
   pub room : OnOk result (IsTrue (fits_in part free))
   pub refusal : IfErr result (λ refusal. IsCarveRefusal part free refusal)
+
+-- What making a lent part its parent answers, by the leaves that are free before: it succeeds
+-- exactly where the part can become its parent, and a refusal has its level.
+pub record EnlargeAnswers {A : Type 0} (part : Span) (free : List Span) (result : Result A Refusal) : Type 0 where
+  pub room : IsOk result ↔ IsTrue (can_enlarge part free)
+  pub refusal : IfErr result (λ refusal. refusal ≡ NoRoom part.level)
 
 -- One more leaf, in its place.
 abbrev pub with_leaf : LentLeaf → List LentLeaf → List LentLeaf

@@ -69,6 +69,12 @@ pub record IsInside (level start : ℕ) (part : Span) : Type 0 where
   pub from : start ≤ part.start
   pub to : part.start + size_of part.level ≤ start + size_of level
 
+-- Two nodes are the halves of that part of the root.
+pub record AreHalves (level start : ℕ) (lower upper : Node) : Type 0 where
+  pub low : level < highest_level
+  pub of_root : IsRootPart level start
+  pub trees : IsTree (level + 1) lower × IsTree (level + 1) upper
+
 -- In a node for that part of the root the part may be lent with that front.
 pub record MayBeLent (level start : ℕ) (part : Span) (front : ℕ) : Type 0 where
   pub of_root : IsRootPart level start

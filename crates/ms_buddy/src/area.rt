@@ -24,7 +24,7 @@ ghost use Rattle.std.specs.Prelude.{IsTrue, IsFalse, IsOk, IfOk, OnOk, IfErr, On
 ghost use Rattle.std.specs.List.{find};
 ghost use Rattle.ms_base.specs.declared.sizes.TheConstants.{ROOT_WORDS};
 ghost use Rattle.ms_base.specs.Level.{size_of};
-ghost use Rattle.ms_buddy.specs.Leaves.{AreLeaves, IsCarveRefusal, IsLeafAt, LentLeaf, can_enlarge, covers};
+ghost use Rattle.ms_buddy.specs.Leaves.{AreLeaves, IsCarveRefusal, IsFront, IsLeafAt, LentLeaf, can_enlarge, covers};
 ghost use Rattle.ms_buddy.specs.Leaves.{fits_in, free_of, is_lent, leaf_of, parent_of, root, span_at};
 ghost use Rattle.ms_buddy.specs.Leaves.{with_front, with_leaf, with_parent, without_leaf};
 
@@ -68,8 +68,7 @@ pub trait RootChunkArea<A: Allocator> {
     /// no memory.
     fn set_front(&mut self, span: Span, front: u64)
         requires lent { IsTrue (is_lent (lent self.old) span) }
-        requires some { 0 < front }
-        requires within { front ≤ size_of span.level }
+        requires front { IsFront (size_of span.level) front }
         ensures front { lent self.new ≡ with_front span front (lent self.old) }
         ensures leaves { AreLeaves (lent self.new) };
 
@@ -88,8 +87,7 @@ pub trait RootChunkArea<A: Allocator> {
     /// Takes no memory. After HotSpot, rootChunkArea.cpp.
     fn enlarge(&mut self, span: Span, front: u64) -> Result<Span, Refusal>
         requires lent { IsTrue (is_lent (lent self.old) span) }
-        requires some { 0 < front }
-        requires within { front ≤ 2 * size_of span.level }
+        requires front { IsFront (2 * size_of span.level) front }
         ensures parent { IfOk result (λ part. part ≡ parent_of span) }
         ensures lent { OnOk result (lent self.new ≡ with_parent span front (lent self.old)) }
         ensures room { IsOk result ↔ IsTrue (can_enlarge span (free_of (lent self.old))) }
@@ -113,8 +111,7 @@ pub trait RootChunkArea<A: Allocator> {
     ) -> Result<(), Refusal>
         requires in_root { at < ROOT_WORDS }
         requires aligned { at % size_of level ≡ 0 }
-        requires some { 0 < front }
-        requires within { front ≤ size_of level }
+        requires front { IsFront (size_of level) front }
         ensures lent { OnOk result
             (lent self.new ≡ with_leaf (leaf_of (span_at at level) owner front) (lent self.old)) }
         ensures no_room { (result ≡ Err (Refusal.NoRoom level))

@@ -10,11 +10,10 @@ ghost use Rattle.std.specs.Prelude.{IfSome, OnSome, IfNone, IsOk, IfOk, OnOk, If
 ghost use Rattle.std.specs.List.{find};
 ghost use Rattle.ms_base.specs.declared.sizes.TheConstants.{ROOT_WORDS};
 ghost use Rattle.ms_base.specs.Level.{size_of};
-ghost use Rattle.ms_base.specs.Part.{IsPart};
 ghost use Rattle.ms_buddy.specs.Boxes.{IsEnlarged, shape_of};
-ghost use Rattle.ms_buddy.specs.Leaves.{IsCarveRefusal, IsLeafAt, can_enlarge, covers, fits_in, is_lent, leaf_of};
+ghost use Rattle.ms_buddy.specs.Leaves.{CarveAnswers, EnlargeAnswers, IsFront, IsLeafAt, can_enlarge, covers, is_lent, leaf_of};
 ghost use Rattle.ms_buddy.specs.Leaves.{with_front, with_leaf, with_parent, without_leaf};
-ghost use Rattle.ms_buddy.specs.Tree.{IsInside, IsRootPart, IsTree, free_in, free_in_halves, is_free, lent_in};
+ghost use Rattle.ms_buddy.specs.Tree.{AreHalves, IsRootPart, IsTree, MayBeLent, free_in, free_in_halves, is_free, lent_in};
 ghost use Rattle.ms_buddy.specs.Tree.{lent_in_halves};
 
 use crate::leaf::Leaf;
@@ -146,14 +145,11 @@ impl<A: Allocator> Node<A> {
         requires tree { IsTree level (shape_of self.old) }
         requires of_root { IsRootPart level start }
         requires lent { IsTrue (is_lent (lent_in level start (shape_of self.old)) span) }
-        requires some { 0 < front }
-        requires within { front ≤ 2 * size_of span.level }
-        ensures tree { IsTree level (shape_of self.new) }
-        ensures split { is_free (shape_of self.new) ≡ is_free (shape_of self.old) }
+        requires front { IsFront (2 * size_of span.level) front }
+        ensures stays { IsTree level (shape_of self.new) × (is_free (shape_of self.new) ≡ is_free (shape_of self.old)) }
         ensures lent { OnOk result (lent_in level start (shape_of self.new)
             ≡ with_parent span front (lent_in level start (shape_of self.old))) }
-        ensures room { IsOk result ↔ IsTrue (can_enlarge span (free_in level start (shape_of self.old))) }
-        ensures refusal { IfErr result (λ refusal. refusal ≡ Refusal.NoRoom span.level) }
+        ensures answers { EnlargeAnswers span (free_in level start (shape_of self.old)) result }
         ensures unchanged { OnErr result (self.new ≡ self.old) }
     {
         match self {
@@ -182,11 +178,7 @@ impl<A: Allocator + Clone> Node<A> {
         owner: u32,
         front: u64,
     ) -> Result<Node<A>, AllocError>
-        requires of_root { IsRootPart level start }
-        requires part { IsPart span.start span.level }
-        requires inside { IsInside level start span }
-        requires some { 0 < front }
-        requires within { front ≤ size_of span.level }
+        requires { MayBeLent level start span front }
         ensures tree { IfOk result (λ node. IsTree level (shape_of node)) }
         ensures split { IfOk result (λ node. is_free (shape_of node) ≡ false) }
         ensures lent { IfOk result
@@ -220,18 +212,12 @@ impl<A: Allocator + Clone> Node<A> {
         front: u64,
     ) -> Result<(), Refusal>
         requires tree { IsTree level (shape_of self.old) }
-        requires of_root { IsRootPart level start }
-        requires part { IsPart span.start span.level }
-        requires inside { IsInside level start span }
-        requires some { 0 < front }
-        requires within { front ≤ size_of span.level }
+        requires may { MayBeLent level start span front }
         ensures tree { IsTree level (shape_of self.new) }
         ensures split { OnOk result (is_free (shape_of self.new) ≡ false) }
         ensures lent { OnOk result (lent_in level start (shape_of self.new)
             ≡ with_leaf (leaf_of span owner front) (lent_in level start (shape_of self.old))) }
-        ensures room { OnOk result (IsTrue (fits_in span (free_in level start (shape_of self.old)))) }
-        ensures refusal { IfErr result
-            (λ refusal. IsCarveRefusal span (free_in level start (shape_of self.old)) refusal) }
+        ensures answers { CarveAnswers span (free_in level start (shape_of self.old)) result }
         ensures unchanged { OnErr result (self.new ≡ self.old) }
     {
         match self {
@@ -265,22 +251,18 @@ fn enlarge_in_half<A: Allocator>(
     span: Span,
     front: u64,
 ) -> Result<Option<u32>, Refusal>
-    requires low { level < 12 }
-    requires of_root { IsRootPart level start }
-    requires trees { IsTree (level + 1) (shape_of lower.old) × IsTree (level + 1) (shape_of upper.old) }
+    requires halves { AreHalves level start (shape_of lower.old) (shape_of upper.old) }
     requires lent { IsTrue (is_lent (lent_in_halves level start (shape_of lower.old) (shape_of upper.old)) span) }
-    requires some { 0 < front }
-    requires within { front ≤ 2 * size_of span.level }
+    requires front { IsFront (2 * size_of span.level) front }
     ensures trees { IsTree (level + 1) (shape_of lower.new) × IsTree (level + 1) (shape_of upper.new) }
     ensures split { (is_free (shape_of lower.new)
         ≡ is_free (shape_of lower.old)) × (is_free (shape_of upper.new) ≡ is_free (shape_of upper.old)) }
     ensures lent { IfOk result
         (λ owner. IsEnlarged level start owner front (shape_of lower.new) (shape_of upper.new)
-        (with_parent span front (lent_in_halves level start (shape_of lower.old) (shape_of upper.old)))) }
-    ensures fits { IfOk result (λ owner. OnSome owner (front ≤ size_of level)) }
-    ensures room { IsOk result
-        ↔ IsTrue (can_enlarge span (free_in_halves level start (shape_of lower.old) (shape_of upper.old))) }
-    ensures refusal { IfErr result (λ refusal. refusal ≡ Refusal.NoRoom span.level) }
+        (with_parent span front (lent_in_halves level start (shape_of lower.old) (shape_of upper.old)))
+        × OnSome owner (front ≤ size_of level)) }
+    ensures answers { EnlargeAnswers span
+        (free_in_halves level start (shape_of lower.old) (shape_of upper.old)) result }
     ensures unchanged { OnErr result ((lower.new ≡ lower.old) × (upper.new ≡ upper.old)) }
 {
     let middle = start + half_of(level);
@@ -348,20 +330,14 @@ fn carve_in_half<A: Allocator + Clone>(
     front: u64,
 ) -> Result<(), Refusal>
     requires low { level < span.level }
-    requires of_root { IsRootPart level start }
     requires trees { IsTree (level + 1) (shape_of lower.old) × IsTree (level + 1) (shape_of upper.old) }
-    requires part { IsPart span.start span.level }
-    requires inside { IsInside level start span }
-    requires some { 0 < front }
-    requires within { front ≤ size_of span.level }
+    requires may { MayBeLent level start span front }
     ensures trees { IsTree (level + 1) (shape_of lower.new) × IsTree (level + 1) (shape_of upper.new) }
     ensures split { OnOk result (IsFalse (is_free (shape_of lower.new) && is_free (shape_of upper.new))) }
     ensures lent { OnOk result (lent_in_halves level start (shape_of lower.new) (shape_of upper.new)
         ≡ with_leaf (leaf_of span owner front) (lent_in_halves level start (shape_of lower.old) (shape_of upper.old))) }
-    ensures room { OnOk result
-        (IsTrue (fits_in span (free_in_halves level start (shape_of lower.old) (shape_of upper.old)))) }
-    ensures refusal { IfErr result
-        (λ refusal. IsCarveRefusal span (free_in_halves level start (shape_of lower.old) (shape_of upper.old)) refusal) }
+    ensures answers { CarveAnswers span
+        (free_in_halves level start (shape_of lower.old) (shape_of upper.old)) result }
     ensures unchanged { OnErr result ((lower.new ≡ lower.old) × (upper.new ≡ upper.old)) }
 {
     let middle = start + half_of(level);
@@ -395,9 +371,7 @@ fn release_in_half<A: Allocator>(
     start: u64,
     span: Span,
 ) -> Option<Span>
-    requires low { level < 12 }
-    requires of_root { IsRootPart level start }
-    requires trees { IsTree (level + 1) (shape_of lower.old) × IsTree (level + 1) (shape_of upper.old) }
+    requires halves { AreHalves level start (shape_of lower.old) (shape_of upper.old) }
     requires lent { IsTrue (is_lent (lent_in_halves level start (shape_of lower.old) (shape_of upper.old)) span) }
     ensures trees { IsTree (level + 1) (shape_of lower.new) × IsTree (level + 1) (shape_of upper.new) }
     ensures lent { lent_in_halves level start (shape_of lower.new) (shape_of upper.new)

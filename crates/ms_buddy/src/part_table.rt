@@ -19,7 +19,7 @@ ghost use Rattle.std.specs.List.{find, list_any};
 ghost use Rattle.ms_base.specs.declared.sizes.TheConstants.{ROOT_WORDS};
 ghost use Rattle.ms_base.specs.Level.{size_of};
 ghost use Rattle.ms_buddy.specs.Counts.{count_at_level};
-ghost use Rattle.ms_buddy.specs.Leaves.{AreLeaves, IsCarveRefusal, IsLeafAt, can_enlarge, covers, fits_in, free_of};
+ghost use Rattle.ms_buddy.specs.Leaves.{AreLeaves, IsCarveRefusal, IsFront, IsLeafAt, can_enlarge, covers, fits_in, free_of};
 ghost use Rattle.ms_buddy.specs.Leaves.{LendsAt, has_level, is_lent, is_of, is_of_from, leaf_of};
 ghost use Rattle.ms_buddy.specs.Leaves.{parent_of, root};
 ghost use Rattle.ms_buddy.specs.Leaves.{span_at, with_front, with_leaf, with_parent, without_leaf};
@@ -222,8 +222,7 @@ impl<A: Allocator> PartTable<A> {
     /// no memory.
     pub fn set_front(&mut self, span: Span, front: u64)
         requires lent { IsTrue (is_lent self.old span) }
-        requires some { 0 < front }
-        requires within { front ≤ size_of span.level }
+        requires front { IsFront (size_of span.level) front }
         ensures front { self.new ≡ with_front span front self.old }
         ensures leaves { AreLeaves self.new }
     {
@@ -254,8 +253,7 @@ impl<A: Allocator> PartTable<A> {
     /// Takes no memory. After HotSpot, rootChunkArea.cpp.
     pub fn enlarge(&mut self, span: Span, front: u64) -> Result<Span, Refusal>
         requires lent { IsTrue (is_lent self.old span) }
-        requires some { 0 < front }
-        requires within { front ≤ 2 * size_of span.level }
+        requires front { IsFront (2 * size_of span.level) front }
         ensures parent { IfOk result (λ part. part ≡ parent_of span) }
         ensures lent { OnOk result (self.new ≡ with_parent span front self.old) }
         ensures room { IsOk result ↔ IsTrue (can_enlarge span (free_of self.old)) }
@@ -295,8 +293,7 @@ impl<A: Allocator> PartTable<A> {
     ) -> Result<(), Refusal>
         requires in_root { at < ROOT_WORDS }
         requires aligned { at % size_of level ≡ 0 }
-        requires some { 0 < front }
-        requires within { front ≤ size_of level }
+        requires front { IsFront (size_of level) front }
         ensures lent { OnOk result
             (self.new ≡ with_leaf (leaf_of (span_at at level) owner front) self.old) }
         ensures no_room { (result ≡ Err (Refusal.NoRoom level))

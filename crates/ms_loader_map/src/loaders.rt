@@ -111,8 +111,7 @@ impl Loaders {
         requires unused { named self.old name ≡ None }
         requires empty { account.chunks ≡ [] }
         requires class_empty { class_account.chunks ≡ [] }
-        requires space { account.space ≡ NonClass }
-        requires class_space { class_account.space ≡ Class }
+        requires spaces { (account.space ≡ NonClass) × (class_account.space ≡ Class) }
         ensures made { OnOk result (self.new ≡ with_new self.old name (new_loader account class_account kind)) }
         ensures sound { IsSoundView (new_loader account class_account kind) }
         ensures back { IfErr result (AreAccountsOf (new_loader account class_account kind)) }

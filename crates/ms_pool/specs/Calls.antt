@@ -9,10 +9,10 @@ use Rattle.ms_base.specs.declared.refusal.Refusal.{Refusal}
 use Rattle.ms_base.specs.declared.refusal.Refusal.TheVariants.{CommitLimit, ReserveLimit, OutOfMemory, IdsUsedUp}
 use Rattle.ms_base.specs.declared.refusal.Refusal.TheVariants.{NoRoom}
 use Rattle.ms_base.specs.PoolSteps.{taken, grown}
-use Rattle.ms_pool.specs.Account.{AccountState}
+use Rattle.ms_pool.specs.Account.{AccountState, AreChunks}
 use Rattle.ms_pool.specs.Lending.{span_of}
 use Rattle.ms_pool.specs.Tallies.{Tallies, one_more}
-use Rattle.ms_pool.specs.Ledger.{Ledger, state_in, with_lent, with_grown, with_opened, with_closed, with_both_closed}
+use Rattle.ms_pool.specs.Ledger.{IsSoundLedger, Ledger, state_in, with_lent, with_grown, with_opened, with_closed, with_both_closed}
 use Rattle.ms_pool.specs.Ledger.{purged, opened_in}
 use Rattle.ms_base.specs.Totals.{PoolSums, pool_sums}
 use Rattle.ms_pool.specs.declared.totals.PoolTotals.{PoolTotals}
@@ -24,6 +24,13 @@ tallied ledger tallies = record ledger { tallies = tallies }
 -- The account of an owner that has nothing yet.
 abbrev pub new_account : ℕ → Space → AccountState
 new_account owner space = record { owner = owner; space = space; chunks = [] }
+
+-- A pool is sound before a call and after it, and so are the chunks of the account that it is for.
+pub record AreSoundWith (old new : Ledger) (account left : AccountState) : Type 0 where
+  pub before : IsSoundLedger old
+  pub after : IsSoundLedger new
+  pub held : AreChunks account.space account.chunks
+  pub holds : AreChunks left.space left.chunks
 
 -- An account is opened: its number is the next one. All numbers, 1 to 2^32 - 1, were given out
 -- where it is refused.

@@ -1,12 +1,25 @@
 -- What a call on any source of chunks leaves as it is, and what it may be refused with.
-use Rattle.std.specs.Prelude.{◌≡◌, ◌≢◌, ℕ}
+use Rattle.std.specs.Prelude.{◌≡◌, ◌≢◌, ℕ, IsTrue}
 use Rattle.ms_base.specs.declared.kind.Space.{Space}
 use Rattle.ms_base.specs.declared.kind.Space.TheVariants.{NonClass, Class}
 use Rattle.ms_base.specs.declared.refusal.Refusal.{Refusal}
 use Rattle.ms_base.specs.declared.refusal.Refusal.TheVariants.{CommitLimit, ReserveLimit, OutOfMemory, IdsUsedUp}
 use Rattle.ms_base.specs.declared.refusal.Refusal.TheVariants.{NoRoom}
 use Rattle.ms_base.specs.State.{Limits}
-use Rattle.ms_pool.specs.Account.{AccountState}
+use Rattle.ms_pool.specs.Account.{AccountState, has_chunk_at}
+use Rattle.ms_pool.specs.Lending.{MayTake}
+
+-- What whoever takes a chunk has to see to, and whoever has one grow: the source serves the account,
+-- levels and words may be asked for, and the account has the chunk.
+pub record CanTake {S : Type 0} (serves : S → AccountState → Type 0) (source : S) (account : AccountState)
+    (wanted most words : ℕ) : Type 0 where
+  pub served : serves source account
+  pub asks : MayTake wanted most words
+
+pub record CanGrow {S : Type 0} (serves : S → AccountState → Type 0) (source : S) (account : AccountState)
+    (start : ℕ) : Type 0 where
+  pub served : serves source account
+  pub held : IsTrue (has_chunk_at account.chunks start)
 
 -- A call for one owner's account leaves the rest: the accounts of other owners stay served, in each
 -- space as many accounts are open, and the limits are the same.

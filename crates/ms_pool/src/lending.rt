@@ -17,7 +17,7 @@ ghost use Rattle.ms_pool.specs.Lending.{Adds, Grows, MayTake, span_of};
 ghost use Rattle.ms_pool.specs.Source.{ServesBoth};
 ghost use Rattle.ms_pool.specs.Ledger.{Serves, opened_in, state_in, with_lent, with_grown};
 ghost use Rattle.ms_pool.specs.Calls.{Closed, ClosedBoth, Grew, Took};
-ghost use Rattle.ms_pool.specs.Keeping.{IsCounted, IsKept, IsOpen, IsRunOf, ledger_of, with_reserved};
+ghost use Rattle.ms_pool.specs.Keeping.{IsCounted, IsKept, IsOpen, IsReady, IsRunOf, ledger_of, with_reserved};
 ghost use Rattle.ms_pool.specs.Placing.{IsLentThere, MayBeLent, MayBeReplaced};
 ghost use Rattle.ms_pool.specs.Searching.{least_granule, is_full, lacking, part_picked};
 
@@ -38,19 +38,16 @@ impl Lender {
         most: Level,
         words: u64,
     ) -> Result<Span, Refusal>
-        requires kept { IsKept self.old }
-        requires counted { IsCounted self.old }
+        requires ready { IsReady self.old }
         requires served { Serves (ledger_of self.old) account.old }
         requires asks { MayTake wanted most words }
-        ensures kept { IsKept self.new }
-        ensures counted { IsCounted self.new }
+        ensures ready { IsReady self.new }
         ensures added { IfOk result
             (λ span. Adds self.old.policy wanted most words account.old span account.new) }
         ensures unchanged { OnErr result (account.new ≡ account.old) }
         ensures took { Took (ledger_of self.old) account.old wanted most words result (ledger_of self.new) }
-        ensures held { AreChunks account.old.space account.old.chunks }
-        ensures holds { AreChunks account.new.space account.new.chunks }
-        ensures level { most ≤ highest_level }
+        ensures chunks { AreChunks account.old.space account.old.chunks × AreChunks account.new.space account.new.chunks
+            × (most ≤ highest_level) }
     {
         let space = account.space;
         let owner = account.owner;
@@ -210,18 +207,15 @@ impl Lender {
         total: u64,
         may_enlarge: bool,
     ) -> Result<Span, Refusal>
-        requires kept { IsKept self.old }
-        requires counted { IsCounted self.old }
+        requires ready { IsReady self.old }
         requires served { Serves (ledger_of self.old) account.old }
         requires held { IsTrue (has_chunk_at account.old.chunks start) }
-        ensures kept { IsKept self.new }
-        ensures counted { IsCounted self.new }
+        ensures ready { IsReady self.new }
         ensures grown { IfOk result
             (λ span. Grows self.old.policy start total may_enlarge account.old span account.new) }
         ensures unchanged { OnErr result (account.new ≡ account.old) }
         ensures grew { Grew (ledger_of self.old) account.old start total may_enlarge result (ledger_of self.new) }
-        ensures held { AreChunks account.old.space account.old.chunks }
-        ensures holds { AreChunks account.new.space account.new.chunks }
+        ensures chunks { AreChunks account.old.space account.old.chunks × AreChunks account.new.space account.new.chunks }
     {
         let space = account.space;
         let index = index_of(&account.chunks, start);
@@ -431,8 +425,7 @@ fn reserve(nodes: &mut Nodes, slot: u32)
 fn commit(nodes: &mut Nodes, granule: u64, chunk: &Chunk, need: u64)
     requires sound { AreSound nodes.old }
     requires granule { least_granule ≤ granule }
-    requires some { 1 ≤ chunk.now.front }
-    requires fits { chunk.now.start + chunk.now.front < 2 ^ 63 }
+    requires front { (1 ≤ chunk.now.front) × (chunk.now.start + chunk.now.front < 2 ^ 63) }
     requires reserved { AreInReserved nodes.old (chunk.now.start / granule)
         ((chunk.now.start + chunk.now.front - 1) / granule + 1 - chunk.now.start / granule) }
     requires limit { granules_with nodes.old (chunk.now.start / granule)

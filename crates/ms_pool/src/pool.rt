@@ -8,7 +8,7 @@ ghost use Rattle.ms_pool.specs.Lending.{Adds, Grows, MayTake};
 ghost use Rattle.ms_pool.specs.Source.{ServesBoth};
 ghost use Rattle.ms_pool.specs.Tallies.{AreTallies};
 ghost use Rattle.ms_pool.specs.Ledger.{Serves, IsSoundLedger, empty_ledger, opened_in, state_in};
-ghost use Rattle.ms_pool.specs.Calls.{Opened, OpenedBoth, Took, Grew, Closed, ClosedBoth, Purged, Totalled, sums_in};
+ghost use Rattle.ms_pool.specs.Calls.{AreSoundWith, Opened, OpenedBoth, Took, Grew, Closed, ClosedBoth, Purged, Totalled, sums_in};
 
 mod counts;
 mod granules;
@@ -106,10 +106,7 @@ impl Pool {
             (λ span. Adds self.old.limits.policy wanted most words account.old span account.new) }
         ensures unchanged { OnErr result (account.new ≡ account.old) }
         ensures took { Took self.old account.old wanted most words result self.new }
-        ensures before { IsSoundLedger self.old }
-        ensures after { IsSoundLedger self.new }
-        ensures held { AreChunks account.old.space account.old.chunks }
-        ensures holds { AreChunks account.new.space account.new.chunks }
+        ensures sound { AreSoundWith self.old self.new account.old account.new }
         ensures level { most ≤ highest_level }
     {
         self.lender.take(account, wanted, most, words)
@@ -131,10 +128,7 @@ impl Pool {
             (λ span. Grows self.old.limits.policy start total may_enlarge account.old span account.new) }
         ensures unchanged { OnErr result (account.new ≡ account.old) }
         ensures grew { Grew self.old account.old start total may_enlarge result self.new }
-        ensures before { IsSoundLedger self.old }
-        ensures after { IsSoundLedger self.new }
-        ensures held { AreChunks account.old.space account.old.chunks }
-        ensures holds { AreChunks account.new.space account.new.chunks }
+        ensures sound { AreSoundWith self.old self.new account.old account.new }
     {
         self.lender.grow(account, start, total, may_enlarge)
     }

@@ -11,9 +11,9 @@ ghost use Rattle.ms_base.specs.declared.kind.Space.{Space};
 ghost use Rattle.ms_base.specs.declared.span.Span.{Span};
 ghost use Rattle.ms_base.specs.declared.refusal.Refusal.{Refusal};
 ghost use Rattle.ms_base.specs.State.{Limits};
-ghost use Rattle.ms_pool.specs.Account.{AccountState, AreChunks, has_chunk_at};
-ghost use Rattle.ms_pool.specs.Lending.{Adds, Grows, MayTake};
-ghost use Rattle.ms_pool.specs.Source.{LeavesRest, ServesBoth, IsTakeRefusal, IsGrowRefusal, IsOpenRefusal};
+ghost use Rattle.ms_pool.specs.Account.{AccountState, AreChunks};
+ghost use Rattle.ms_pool.specs.Lending.{Adds, Grows};
+ghost use Rattle.ms_pool.specs.Source.{CanTake, CanGrow, LeavesRest, ServesBoth, IsTakeRefusal, IsGrowRefusal, IsOpenRefusal};
 ghost use Rattle.ms_pool.specs.Calls.{new_account};
 ghost use Rattle.ms_pool.specs.declared.totals.PoolTotals.{PoolTotals};
 
@@ -51,8 +51,7 @@ pub trait ChunkSource {
         most: Level,
         words: u64,
     ) -> Result<Span, Refusal>
-        requires served { serves self.old account.old }
-        requires asks { MayTake wanted most words }
+        requires { CanTake serves self.old account.old wanted most words }
         ensures served { serves self.new account.new }
         ensures rest { LeavesRest serves opened limits account.old.owner self.old self.new }
         ensures added { IfOk result
@@ -73,8 +72,7 @@ pub trait ChunkSource {
         total: u64,
         may_enlarge: bool,
     ) -> Result<Span, Refusal>
-        requires served { serves self.old account.old }
-        requires held { IsTrue (has_chunk_at account.old.chunks start) }
+        requires { CanGrow serves self.old account.old start }
         ensures served { serves self.new account.new }
         ensures rest { LeavesRest serves opened limits account.old.owner self.old self.new }
         ensures grown { IfOk result

@@ -1,6 +1,6 @@
 -- A seat that has the pool makes an event of each call, and puts the pool back with none more: both
 -- keep the rule of the lock. For `note`, `put_back` and the calls of HeldPool.
-use Rattle.std.proofs.Common.{◌≡◌, ℕ, ◌+◌, ◌-◌, ◌%◌, ◌^◌, ◌<◌, List, [], ◌++◌, zero, suc, length}
+use Rattle.std.proofs.Common.{◌≡◌, ℕ, ◌-◌, ◌%◌, ◌^◌, ◌<◌, List, [], ◌++◌, zero, suc, length}
 use Rattle.std.proofs.Common.{◌∷◌, set, slice_index, sym, refl, ap, ◌∙◌, subst, arith, Option, Some, None}
 use Rattle.std.proofs.Common.{length-set, get_or-set_same, set-set}
 use Rattle.std.specs.List.{sum_by}

@@ -259,14 +259,14 @@ fn give_number(numbers: &mut Vec<usize>, positions: &mut Vec<usize>, group: usiz
     requires there { group < length numbers.old.items }
     requires none { slice_index_or numbers.old.items group 0 ≡ 0 }
     requires room { 32 ≤ vec_capacity positions.old - vec_len positions.old }
-    ensures there { length numbers.new.items ≡ length numbers.old.items }
-    ensures some { 0 < slice_index_or numbers.new.items group 0 }
+    ensures given { (length numbers.new.items
+        ≡ length numbers.old.items) × (0 < slice_index_or numbers.new.items group 0) }
     ensures same { (stretch : ℕ) → position_grouped numbers.new.items positions.new.items stretch
         ≡ position_grouped numbers.old.items positions.old.items stretch }
     ensures groups { AreGroups numbers.new.items positions.new.items }
-    ensures numbers { vec_capacity numbers.new ≡ vec_capacity numbers.old }
-    ensures room { vec_capacity positions.old - vec_len positions.old
-        ≤ vec_capacity positions.new - vec_len positions.new + 32 }
+    ensures room { (vec_capacity numbers.new
+        ≡ vec_capacity numbers.old) × (vec_capacity positions.old - vec_len positions.old
+        ≤ vec_capacity positions.new - vec_len positions.new + 32) }
 {
     let len = positions.len();
     match positions.resize(len + GROUP, 0) {

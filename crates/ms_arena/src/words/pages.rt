@@ -277,14 +277,12 @@ impl Pages {
     fn clear_in(&mut self, number: usize, from: usize, end: usize)
         requires there { number < length self.old.pages }
         requires order { from ≤ end }
-        requires from { from < 512 * number + 512 }
-        requires end { 512 * number < end }
+        requires meets { (from < 512 * number + 512) × (512 * number < end) }
         ensures zero { (at : ℕ) → at / 512 ≡ number → from ≤ at → at < end → word_at self.new at ≡ 0 }
         ensures others { (at : ℕ) → at / 512 ≢ number → word_at self.new at ≡ word_at self.old at }
         ensures before { (at : ℕ) → at < from → word_at self.new at ≡ word_at self.old at }
         ensures after { (at : ℕ) → end ≤ at → word_at self.new at ≡ word_at self.old at }
-        ensures pages { length self.new.pages ≡ length self.old.pages }
-        ensures room { self.new.room ≡ self.old.room }
+        ensures same { (length self.new.pages ≡ length self.old.pages) × (self.new.room ≡ self.old.room) }
     {
         let page = self.pages[number];
         if !page.written {

@@ -79,6 +79,12 @@ pub passed_on : (result : Option Span) (span : Span) (P : Span → Type 0) → I
 passed_on (Some other) span P e h = subst P (sym e) h
 passed_on None span P e h = tt
 
+-- Two facts of what succeeds, the first of which follows from another.
+pub ok_and : {T E : Type 0} {P : T → Type 0} (R Q : T → Type 0) (result : Result T E) → ((value : T) → P value → R value)
+    → IfOk result P → IfOk result Q → IfOk result (λ value. R value × Q value)
+ok_and R Q (Ok value) step p q = (step value p, q)
+ok_and R Q (Err e) step p q = tt
+
 pub on_ok : {T E : Type 0} (P Q : Type 0) (result : Result T E) → (P → Q) → OnOk result P → OnOk result Q
 on_ok P Q (Ok value) step h = step h
 on_ok P Q (Err e) step h = tt

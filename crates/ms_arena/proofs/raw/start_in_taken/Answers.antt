@@ -4,15 +4,19 @@ use Rattle.ms_base.proofs.free.LevelLemmas.{level_is_greatest}
 use Rattle.ms_arena.proofs.AllocLemmas.{takes_from}
 use Rattle.ms_arena.proofs.raw.start_in_taken.Goals as goal
 
-pub take-requires-clause-may : goal.take-requires-clause-may
-take-requires-clause-may g c =
+pub take-requires : goal.take-requires
+take-requires g c =
     let greatest = level_is_greatest c.args.n c.requires.may.fits in
     record {
-      some = c.requires.may.some;
-      fits = subst (λ (level : ℕ). c.args.n ≤ size_of level) (sym c.in-Some.ensures.level)
-          ((greatest.holds (level_that_holds c.args.n) greatest.below).1 (omega arith));
-      room = c.requires.may.room;
-      spare_tops = c.requires.may.spare_tops;
+      served = search rules;
+      levels = search rules;
+      may = record {
+        some = c.requires.may.some;
+        fits = subst (λ (level : ℕ). c.args.n ≤ size_of level) (sym c.in-Some.ensures.level)
+            ((greatest.holds (level_that_holds c.args.n) greatest.below).1 (omega arith));
+        room = c.requires.may.room;
+        spare_tops = c.requires.may.spare_tops;
+      };
     }
 
 pub returns-clause-takes : goal.returns-clause-takes

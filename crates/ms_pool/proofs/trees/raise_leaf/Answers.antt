@@ -1,4 +1,4 @@
-use Rattle.std.proofs.Common.{◌<◌, ◌/◌, ◌%◌, [], List, length, set, sym, ap, ◌∙◌, arith, eq-eqb}
+use Rattle.std.proofs.Common.{rules, ◌<◌, ◌/◌, ◌%◌, [], List, length, set, sym, ap, ◌∙◌, arith, eq-eqb}
 use Rattle.std.proofs.Common.{eqb-true}
 use Rattle.std.proofs.lemmas.List.{get_or_read}
 use Rattle.std.proofs.lemmas.List.Elements.{recursion_from_All}
@@ -8,10 +8,12 @@ use Rattle.ms_pool.specs.Keeping.{loans_from}
 use Rattle.ms_pool.proofs.growths.RaisedTreeLemmas.{grown_size, loans_with_front, loans_with_parent, parent_level}
 use Rattle.ms_pool.proofs.trees.raise_leaf.Goals as goal
 
-pub enlarge-requires-clause-within : goal.enlarge-requires-clause-within
-enlarge-requires-clause-within c =
-    grown_size c.args.chunk.now.level c.args.greater.now.level c.args.greater.now.front _ c.requires.may.within
-    c.requires.may.grows c.requires.may.low
+pub enlarge-requires-clause-front : goal.enlarge-requires-clause-front
+enlarge-requires-clause-front c = (
+  search rules,
+  grown_size c.args.chunk.now.level c.args.greater.now.level c.args.greater.now.front _ c.requires.may.within
+      c.requires.may.grows c.requires.may.low,
+)
 
 pub returns-then-eq-clause-loans : goal.returns-then-eq-clause-loans
 returns-then-eq-clause-loans c =

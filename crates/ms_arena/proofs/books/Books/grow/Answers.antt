@@ -1,4 +1,4 @@
-use Rattle.std.proofs.Common.{Ok, ◌≡◌, ◌≤◌, ◌+◌, ◌-◌, ◌∙◌, refl, ap, arith, subst, sym, ℕ}
+use Rattle.std.proofs.Common.{rules, Ok, ◌≡◌, ◌≤◌, ◌+◌, ◌-◌, ◌∙◌, refl, ap, arith, subst, sym, ℕ}
 use Rattle.std.specs.Prelude.{slice_index}
 use Rattle.ms_base.specs.Place.{current_top, with_top}
 use Rattle.ms_pool.specs.Lending.{reaching}
@@ -24,10 +24,12 @@ grown g c =
     c.self.invariant
     (current_in _ _ c.args.chunk c.self.view_is c.requires.may.current_is) refl c.in_ok-grow.ensures.grown
 
-pub grow-requires-clause-held : goal.grow-requires-clause-held
-grow-requires-clause-held g c =
-    has_its_start c.self.inside.account.chunks _ c.args.chunk
-    (current_in _ _ c.args.chunk c.self.view_is c.requires.may.current_is)
+pub grow-requires : goal.grow-requires
+grow-requires g c = record {
+  served = search rules;
+  held = has_its_start c.self.inside.account.chunks _ c.args.chunk
+      (current_in _ _ c.args.chunk c.self.view_is c.requires.may.current_is);
+}
 
 pub raise-requires-clause-within : goal.raise-requires-clause-within
 raise-requires-clause-within g c =

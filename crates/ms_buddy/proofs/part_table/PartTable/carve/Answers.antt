@@ -55,8 +55,8 @@ lends g c =
     let is = part_asked g c.before in record {
       kept = kept;
       is = is;
-      some = c.requires.some;
-      within = c.requires.within;
+      some = c.requires.front.0;
+      within = c.requires.front.1;
       order = omega (arith, c.in-Some.ensures.low, c.number-lent.ensures.same);
       any = holder_listed kept.node _ part c.in-Some.free is.root
           (omega (arith, c.in-Some.ensures.low, c.number-lent.ensures.below)) c.in-Some.ensures.set;
@@ -108,7 +108,7 @@ returns-then-is_err-clause-refusal g c =
     )
 
 pub of-requires : goal.of-requires
-of-requires g c = front_fits c.args.level _ c.requires.some (omega (arith, c.requires.within))
+of-requires g c = front_fits c.args.level _ c.requires.front.0 (omega (arith, c.requires.front.1))
 
 pub put-requires-clause-within : goal.put-requires-clause-within
 put-requires-clause-within g c =

@@ -24,7 +24,7 @@ can : (g : Over) (c : Else-not-can_enlarge g)
     → (is : IsLentHere c.self.inside.entries c.self.inside.counts c.self.inside.free.words c.self.inside.free.filled c.args.span)
     → MayBecome 0 0 c.args.span c.args.front is.kept.node
 can g c is =
-    may_become _ _ _ _ _ c.self.inside.entries c.args.span c.args.front is c.requires.some c.requires.within
+    may_become _ _ _ _ _ c.self.inside.entries c.args.span c.args.front is c.requires.front.0 c.requires.front.1
     (ap (can_enlarge c.args.span) (free_of-kept _ _ _ _ _ is.kept ∙ ap free_of c.self.view_is) ∙ sym c.if-not-can_enlarge.ensures)
 
 pub overflow_add-start : goal.overflow_add-start
@@ -51,7 +51,7 @@ change-requires-clause-few g c =
 
 pub change-requires-clause-front : goal.change-requires-clause-front
 change-requires-clause-front g c =
-    front_fits c.args.span.level _ c.requires.some c.requires.within
+    front_fits c.args.span.level _ c.requires.front.0 c.requires.front.1
 
 pub part_counts-requires-clause-some : goal.part_counts-requires-clause-some
 part_counts-requires-clause-some g c =

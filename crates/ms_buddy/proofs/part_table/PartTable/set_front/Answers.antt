@@ -25,12 +25,12 @@ change-requires-clause-few g c =
 
 pub change-requires-clause-front : goal.change-requires-clause-front
 change-requires-clause-front g c =
-    front_fits c.args.span.level _ c.requires.some (omega (arith, c.requires.within))
+    front_fits c.args.span.level _ c.requires.front.0 (omega (arith, c.requires.front.1))
 
 pub invariant_of-self : goal.invariant_of-self
 invariant_of-self g c =
     let is = there g (goal.at.invariant_of-self g c).After-self in
-    let done = fronted 0 0 is.kept.node c.args.span c.args.front is.kept.tree.tree is.there c.requires.some c.requires.within in
+    let done = fronted 0 0 is.kept.node c.args.span c.args.front is.kept.tree.tree is.there c.requires.front.0 c.requires.front.1 in
     rw (c.change.ensures is.at.lending is.at.there) (record {
       node = done.after;
       tree = record {

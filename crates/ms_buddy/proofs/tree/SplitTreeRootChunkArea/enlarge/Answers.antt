@@ -14,5 +14,5 @@ returns-clause-room g c =
 
 pub returns-clause-leaves : goal.returns-clause-leaves
 returns-clause-leaves g c =
-    let leaves = are_leaves (shape_of c.enlarge.new.self) c.enlarge.ensures.tree in
+    let leaves = are_leaves (shape_of c.enlarge.new.self) c.enlarge.ensures.stays.0 in
     elim c.match-enlarge.branch [ in-Ok w ↦ search (rules, leaves) | in-Err w ↦ search (rules, leaves) ]

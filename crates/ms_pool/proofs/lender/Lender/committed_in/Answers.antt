@@ -1,4 +1,4 @@
-use Rattle.std.proofs.Common.{ℕ, ◌*◌, ◌/◌, sym, ◌∙◌}
+use Rattle.std.proofs.Common.{◌*◌, ◌/◌, sym, ◌∙◌}
 use Rattle.ms_pool.proofs.counts.CommittedCountLemmas.{IsCountedIn, counted_in, slots_between}
 use Rattle.ms_pool.proofs.lender.Lender.committed_in.Goals as goal
 use Rattle.ms_pool.proofs.lender.Lender.committed_in.Goals.{After-missing}

@@ -1,4 +1,4 @@
-use Rattle.std.proofs.Common.{[], ◌∷◌, refl, sym, subst, ◌∙◌, arith}
+use Rattle.std.proofs.Common.{rules, [], ◌∷◌, refl, sym, subst, ◌∙◌, arith}
 use Rattle.ms_pool.specs.declared.lent.Lent.{Lent}
 use Rattle.ms_pool.specs.Counting.{HasLeast, HasRoomFor, MovesIn, counted_in}
 use Rattle.ms_pool.specs.Ledger.{state_in}
@@ -19,7 +19,7 @@ found : (c : After-index)
     IsFoundAt c.args.self.now (record { owner = f.owner; space = f.space; chunks = f.chunks.items }) c.args.start
     c.index_of-index.result c.index.result.now
 found c =
-    found_there c.args.self.now _ _ c.args.start _ c.index.result.now _ c.requires.kept c.account.view_is
+    found_there c.args.self.now _ _ c.args.start _ c.index.result.now _ c.requires.ready.kept c.account.view_is
     c.requires.served c.account.invariant c.deref.ensures.value c.index_of-index.ensures.there
     c.index_of-index.ensures.starts c.index.ensures
 
@@ -31,7 +31,7 @@ grown : (c : In_default-commit_limit)
     → GrowsThere c.args.self.now (record { owner = f.owner; space = f.space; chunks = f.chunks.items })
     c.index_of-index.result c.index.result.now c.in-Some.greater c.args.total c.args.may_enlarge
 grown c at_ =
-    grows_there c.args.self.now _ _ _ _ c.in-Some.greater c.args.total c.args.may_enlarge c.requires.kept at_
+    grows_there c.args.self.now _ _ _ _ c.in-Some.greater c.args.total c.args.may_enlarge c.requires.ready.kept at_
     c.if-total-chunk.false (sym c.reaching.ensures ∙ c.in-Some.is)
     (rw c.missing-need.ensures at c.in_default-commit_limit.ensures.within)
 
@@ -39,7 +39,7 @@ pub returns-then-total-chunk-clause-grown : goal.returns-then-total-chunk-clause
 returns-then-total-chunk-clause-grown c =
     let at_ = found (goal.at.returns-then-total-chunk-clause-grown c).After-index in
     rw (← c.account.view_is, c.span_of.ensures)
-    (stays_there c.args.self.now _ _ _ _ c.args.total c.args.may_enlarge c.requires.kept at_ c.if-total-chunk.true)
+    (stays_there c.args.self.now _ _ _ _ c.args.total c.args.may_enlarge c.requires.ready.kept at_ c.if-total-chunk.true)
 
 pub returns-then-total-chunk-clause-grew : goal.returns-then-total-chunk-clause-grew
 returns-then-total-chunk-clause-grew c =
@@ -49,26 +49,26 @@ returns-then-total-chunk-clause-grew c =
       grown_stays (state_in c.account.inside.space (ledger_of c.args.self.now)) c.index.result.now
           c.args.total c.args.may_enlarge c.if-total-chunk.true,
       c.span_of.ensures,
-      stays_as_it_was (ledger_of c.args.self.now) c.account.inside.owner c.index.result.now c.requires.kept.sound
+      stays_as_it_was (ledger_of c.args.self.now) c.account.inside.owner c.index.result.now c.requires.ready.kept.sound
           at_.own.loan,
     ))
 
 pub reaching-requires : goal.reaching-requires
 reaching-requires c =
     let at_ = found (goal.at.reaching-requires c).After-index in
-    record { kept = c.requires.kept; own = at_.own.there }
+    record { kept = c.requires.ready.kept; own = at_.own.there }
 
-pub returns-in_default-clause-kept : goal.returns-in_default-clause-kept
-returns-in_default-clause-kept c = kept_however_told c.args.self.now _ c.requires.kept
+pub returns-in_default-clause-ready : goal.returns-in_default-clause-ready
+returns-in_default-clause-ready c = record {
+  kept = kept_however_told c.args.self.now _ c.requires.ready.kept;
+  counted = c.requires.ready.counted;
+}
 
-pub returns-in_default-clause-counted : goal.returns-in_default-clause-counted
-returns-in_default-clause-counted c = c.requires.counted
-
-pub returns-in-Some-commit_limit-clause-kept : goal.returns-in-Some-commit_limit-clause-kept
-returns-in-Some-commit_limit-clause-kept c = kept_however_told c.args.self.now _ c.requires.kept
-
-pub returns-in-Some-commit_limit-clause-counted : goal.returns-in-Some-commit_limit-clause-counted
-returns-in-Some-commit_limit-clause-counted c = c.requires.counted
+pub returns-in-Some-commit_limit-clause-ready : goal.returns-in-Some-commit_limit-clause-ready
+returns-in-Some-commit_limit-clause-ready c = record {
+  kept = kept_however_told c.args.self.now _ c.requires.ready.kept;
+  counted = c.requires.ready.counted;
+}
 
 pub returns-in_default-clause-grew : goal.returns-in_default-clause-grew
 returns-in_default-clause-grew c =
@@ -83,9 +83,9 @@ pub missing-need-requires : goal.missing-need-requires
 missing-need-requires c =
     let at_ = found (goal.at.missing-need-requires c).After-index in
     let there =
-    reached_there c.args.self.now _ _ _ _ c.in-Some.greater c.args.total c.args.may_enlarge c.requires.kept at_
+    reached_there c.args.self.now _ _ _ _ c.in-Some.greater c.args.total c.args.may_enlarge c.requires.ready.kept at_
     c.if-total-chunk.false (sym c.reaching.ensures ∙ c.in-Some.is) in
-    record { kept = c.requires.kept; some = there.well.some; inside = there.fits.inside; fits = there.fits.fits }
+    record { kept = c.requires.ready.kept; some = there.well.some; inside = there.fits.inside; fits = there.fits.fits }
 
 pub returns-in-Some-commit_limit-clause-grew : goal.returns-in-Some-commit_limit-clause-grew
 returns-in-Some-commit_limit-clause-grew c =
@@ -93,7 +93,7 @@ returns-in-Some-commit_limit-clause-grew c =
     rw (← c.account.view_is, c.in-Some-commit_limit.ensures.refusal, c.missing-need.ensures)
     (grew_there c.args.self.now _ _ _ _ c.args.total c.args.may_enlarge _ _ at_ (
       past_space c.account.inside.space c.args.self.now c.index.result.now c.in-Some.greater c.args.total
-          c.args.may_enlarge c.requires.kept c.if-total-chunk.false (sym c.reaching.ensures ∙ c.in-Some.is)
+          c.args.may_enlarge c.requires.ready.kept c.if-total-chunk.false (sym c.reaching.ensures ∙ c.in-Some.is)
           (rw c.missing-need.ensures at c.in-Some-commit_limit.ensures.met),
       refl,
     ))
@@ -102,7 +102,7 @@ pub replace-requires : goal.replace-requires
 replace-requires c =
     let points = goal.at.replace-requires c in let at_ = found points.After-index in let grows =
     grown points.In_default-commit_limit at_ in
-    record { kept = c.requires.kept; own = at_.own.there; may = grows.may; need = c.missing-need.ensures }
+    record { kept = c.requires.ready.kept; own = at_.own.there; may = grows.may; need = c.missing-need.ensures }
 
 pub invariant_of-account : goal.invariant_of-account
 invariant_of-account c =
@@ -132,28 +132,27 @@ replace-requires-2 c =
     record {
       least = subst (λ (lent : Lent). HasLeast (counted_in space lent) c.index.result.now) (sym c.replace.ensures.lent)
           (least_there _ c.index.result.now c.in-Some.greater c.args.self.now.lent (ledger_of c.args.self.now)
-          c.requires.counted (omega (arith, at_.own.placed.0))
-          (grown_where_found c.args.self.now _ _ _ _ _ _ _ c.requires.kept at_ grows));
+          c.requires.ready.counted (omega (arith, at_.own.placed.0))
+          (grown_where_found c.args.self.now _ _ _ _ _ _ _ c.requires.ready.kept at_ grows));
       room = subst (λ (lent : Lent). HasRoomFor (counted_in space lent) c.in-Some.greater) (sym c.replace.ensures.lent)
-          (room_there space c.args.self.now c.in-Some.greater c.requires.kept c.requires.counted grows.may.placed
+          (room_there space c.args.self.now c.in-Some.greater c.requires.ready.kept c.requires.ready.counted grows.may.placed
           grows.may.within);
     }
 
-pub returns-clause-kept : goal.returns-clause-kept
-returns-clause-kept c = kept_however_counted c.replace.new.self c.replace-2.new.self c.replace.ensures.kept
-
-pub returns-clause-counted : goal.returns-clause-counted
-returns-clause-counted c =
-    let points = goal.at.returns-clause-counted c in let at_ = found points.After-index in let grows =
-    grown points.In_default-commit_limit at_ in
-    grown_is_counted _ c.index.result.now c.in-Some.greater c.args.self.now.lent c.replace-2.new.self
-    (ledger_of c.args.self.now) _ c.requires.counted
-    (subst (λ (lent : Lent). MovesIn c.account.inside.space lent (c.index.result.now ∷ []) (c.in-Some.greater ∷ [])
-    c.replace-2.new.self) c.replace.ensures.lent c.replace-2.ensures) c.replace.ensures.grown
-    (grown_where_found c.args.self.now _ _ _ _ _ _ _ c.requires.kept at_ grows)
+pub returns-clause-ready : goal.returns-clause-ready
+returns-clause-ready c =
+    let points = goal.at.returns-clause-ready c in let at_ = found points.After-index in let grows =
+    grown points.In_default-commit_limit at_ in record {
+      kept = kept_however_counted c.replace.new.self c.replace-2.new.self c.replace.ensures.kept;
+      counted = grown_is_counted _ c.index.result.now c.in-Some.greater c.args.self.now.lent c.replace-2.new.self
+          (ledger_of c.args.self.now) _ c.requires.ready.counted
+          (subst (λ (lent : Lent). MovesIn c.account.inside.space lent (c.index.result.now ∷ []) (c.in-Some.greater ∷ [])
+          c.replace-2.new.self) c.replace.ensures.lent c.replace-2.ensures) c.replace.ensures.grown
+          (grown_where_found c.args.self.now _ _ _ _ _ _ _ c.requires.ready.kept at_ grows);
+    }
 
 pub returns-clause-unchanged : goal.returns-clause-unchanged
 returns-clause-unchanged c = tt
 
-pub returns-clause-holds : goal.returns-clause-holds
-returns-clause-holds c = invariant_of-account c
+pub returns-clause-chunks : goal.returns-clause-chunks
+returns-clause-chunks c = (search rules, invariant_of-account c)

@@ -1,4 +1,4 @@
-use Rattle.std.proofs.Common.{List, ap, refl, subst, sym, arith}
+use Rattle.std.proofs.Common.{rules, List, ap, refl, subst, sym, arith}
 use Rattle.ms_base.specs.Part.{slot_of}
 use Rattle.ms_buddy.specs.Leaves.{LentLeaf}
 use Rattle.ms_pool.specs.Keeping.{IsKept, ledger_of}
@@ -40,10 +40,12 @@ reserve-requires-clause-left c =
     λ gone. (open_where_fresh c.args.space c.args.self.now.nodes (slot_of c.args.chunk.now.start) c.requires.may.slot
     gone).1
 
-pub commit-requires-clause-fits : goal.commit-requires-clause-fits
-commit-requires-clause-fits c =
-    front_is_low c.args.space c.args.self.now c.args.chunk.now c.requires.kept c.requires.may.placed
-    c.requires.may.within c.requires.may.slot
+pub commit-requires-clause-front : goal.commit-requires-clause-front
+commit-requires-clause-front c = (
+  search rules,
+  front_is_low c.args.space c.args.self.now c.args.chunk.now c.requires.kept c.requires.may.placed
+      c.requires.may.within c.requires.may.slot,
+)
 
 pub commit-requires-clause-reserved : goal.commit-requires-clause-reserved
 commit-requires-clause-reserved c =

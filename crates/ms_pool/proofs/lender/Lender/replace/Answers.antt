@@ -1,4 +1,4 @@
-use Rattle.std.proofs.Common.{sym, ◌∙◌, arith, inl, inr}
+use Rattle.std.proofs.Common.{rules, sym, ◌∙◌, arith, inl, inr}
 use Rattle.std.proofs.lemmas.List.Elements.{recursion_from_All}
 use Rattle.ms_base.specs.Part.{slot_of}
 use Rattle.ms_buddy.specs.Leaves.{AreLeaves}
@@ -35,12 +35,14 @@ raise-requires-clause-may c =
       ];
     }
 
-pub commit-requires-clause-fits : goal.commit-requires-clause-fits
-commit-requires-clause-fits c =
-    front_is_low c.args.space c.args.self.now c.args.greater.now c.requires.kept c.requires.may.placed
-    c.requires.may.within
-    (inl (reserved_too c.args.space c.args.self.now c.args.chunk.now c.args.greater.now c.requires.own
-    c.requires.may))
+pub commit-requires-clause-front : goal.commit-requires-clause-front
+commit-requires-clause-front c = (
+  search rules,
+  front_is_low c.args.space c.args.self.now c.args.greater.now c.requires.kept c.requires.may.placed
+      c.requires.may.within
+      (inl (reserved_too c.args.space c.args.self.now c.args.chunk.now c.args.greater.now c.requires.own
+      c.requires.may)),
+)
 
 pub commit-requires-clause-reserved : goal.commit-requires-clause-reserved
 commit-requires-clause-reserved c =

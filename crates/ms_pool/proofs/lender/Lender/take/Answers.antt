@@ -1,4 +1,4 @@
-use Rattle.std.proofs.Common.{refl, sym, ap, arith}
+use Rattle.std.proofs.Common.{rules, refl, sym, ap, arith}
 use Rattle.ms_base.proofs.free.HalvesLemmas.{size_falls}
 use Rattle.ms_pool.specs.Lending.{span_of}
 use Rattle.ms_pool.specs.Ledger.{state_in}
@@ -15,7 +15,7 @@ picked : (c : After-chunk_at-chunk)
     c.chunk_at-chunk.result
 picked c =
     picked_there c.args.self.now c.account.inside.space c.args.wanted c.args.most c.args.words c.in-Some.span
-    c.chunk_at-chunk.result c.requires.kept
+    c.chunk_at-chunk.result c.requires.ready.kept
     (record { may = c.requires.asks; real = c.pick.ensures.level })
     c.in-Some.ensures.picked c.in-Some.ensures.slot c.chunk_at-chunk.ensures
 
@@ -27,25 +27,25 @@ takes : (c : In_default-commit_limit)
     TakesThere c.args.self.now (record { owner = f.owner; space = f.space; chunks = f.chunks.items }) c.args.wanted
     c.args.most c.args.words c.chunk_at-chunk.result
 takes c at_ =
-    takes_there c.args.self.now _ _ c.args.wanted c.args.most c.args.words c.chunk_at-chunk.result c.requires.kept at_
+    takes_there c.args.self.now _ _ c.args.wanted c.args.most c.args.words c.chunk_at-chunk.result c.requires.ready.kept at_
     c.account.view_is c.requires.served c.account.invariant c.in-Some.ensures.room
     (rw c.missing-need.ensures at c.in_default-commit_limit.ensures.within)
 
 -- A refusal and its tally change nothing that is kept.
 pub reserve_limit-requires : goal.reserve_limit-requires
-reserve_limit-requires c = kept_however_told c.args.self.now _ c.requires.kept
+reserve_limit-requires c = kept_however_told c.args.self.now _ c.requires.ready.kept
 
-pub returns-in_default-clause-kept : goal.returns-in_default-clause-kept
-returns-in_default-clause-kept c = kept_however_told c.args.self.now _ c.requires.kept
+pub returns-in_default-clause-ready : goal.returns-in_default-clause-ready
+returns-in_default-clause-ready c = record {
+  kept = kept_however_told c.args.self.now _ c.requires.ready.kept;
+  counted = c.requires.ready.counted;
+}
 
-pub returns-in_default-clause-counted : goal.returns-in_default-clause-counted
-returns-in_default-clause-counted c = c.requires.counted
-
-pub returns-in-Some-commit_limit-clause-kept : goal.returns-in-Some-commit_limit-clause-kept
-returns-in-Some-commit_limit-clause-kept c = kept_however_told c.args.self.now _ c.requires.kept
-
-pub returns-in-Some-commit_limit-clause-counted : goal.returns-in-Some-commit_limit-clause-counted
-returns-in-Some-commit_limit-clause-counted c = c.requires.counted
+pub returns-in-Some-commit_limit-clause-ready : goal.returns-in-Some-commit_limit-clause-ready
+returns-in-Some-commit_limit-clause-ready c = record {
+  kept = kept_however_told c.args.self.now _ c.requires.ready.kept;
+  counted = c.requires.ready.counted;
+}
 
 pub returns-in_default-clause-took : goal.returns-in_default-clause-took
 returns-in_default-clause-took c =
@@ -62,14 +62,14 @@ chunk_at-chunk-requires c =
 pub missing-need-requires : goal.missing-need-requires
 missing-need-requires c =
     let at_ = picked (goal.at.missing-need-requires c).After-chunk_at-chunk in
-    record { kept = c.requires.kept; some = at_.well.some; inside = at_.well.inside; fits = at_.well.fits }
+    record { kept = c.requires.ready.kept; some = at_.well.some; inside = at_.well.inside; fits = at_.well.fits }
 
 pub returns-in-Some-commit_limit-clause-took : goal.returns-in-Some-commit_limit-clause-took
 returns-in-Some-commit_limit-clause-took c =
     let at_ = picked (goal.at.returns-in-Some-commit_limit-clause-took c).After-chunk_at-chunk in
     rw (← c.account.view_is, c.in-Some-commit_limit.ensures.refusal, c.missing-need.ensures) (
       taken_commit c.account.inside.space c.args.self.now c.args.wanted c.args.most c.args.words c.chunk_at-chunk.result
-          c.requires.kept at_.asks.may.levels at_.asks.real at_.asks.may.some at_.asks.may.fits at_.is
+          c.requires.ready.kept at_.asks.may.levels at_.asks.real at_.asks.may.some at_.asks.may.fits at_.is
           c.in-Some.ensures.room (rw c.missing-need.ensures at c.in-Some-commit_limit.ensures.met),
       refl,
     )
@@ -85,8 +85,8 @@ lend-requires c =
     let at_ = goal.at.lend-requires c in let well =
     takes at_.In_default-commit_limit (picked at_.After-chunk_at-chunk) in
     record {
-      kept = c.requires.kept;
-      counted = c.requires.counted;
+      kept = c.requires.ready.kept;
+      counted = c.requires.ready.counted;
       may = well.may;
       need = c.missing-need.ensures;
     }
@@ -122,5 +122,8 @@ returns-clause-took c =
       after = c.if-not-lend.ensures.lent refl;
     })
 
-pub returns-clause-holds : goal.returns-clause-holds
-returns-clause-holds c = invariant_of-account-2 c
+pub returns-clause-ready : goal.returns-clause-ready
+returns-clause-ready c = record { kept = c.lend.ensures.kept; counted = c.lend.ensures.counted }
+
+pub returns-clause-chunks : goal.returns-clause-chunks
+returns-clause-chunks c = (search rules, invariant_of-account-2 c, c.pick.ensures.level)

@@ -6,7 +6,7 @@ pub returns-clause-served : goal.returns-clause-served
 returns-clause-served c =
     grew_serves c.args.self.now c.args.account.now c.args.start c.args.total c.args.may_enlarge c.grow.result
     c.grow.new.self c.grow.new.account
-    c.grow.ensures.before c.requires.served c.grow.ensures.held c.grow.ensures.grew c.grow.ensures.grown
+    c.grow.ensures.sound.before c.requires.served c.grow.ensures.sound.held c.grow.ensures.grew c.grow.ensures.grown
     c.grow.ensures.unchanged
 
 pub returns-clause-rest : goal.returns-clause-rest
@@ -14,7 +14,7 @@ returns-clause-rest c =
     keeps_rest c.args.account.now.owner c.args.self.now c.grow.new.self
     (grew_keeps c.args.self.now c.args.account.now c.args.start c.args.total c.args.may_enlarge c.grow.result
     c.grow.new.self
-    c.grow.ensures.before c.requires.served c.grow.ensures.held c.grow.ensures.grew)
+    c.grow.ensures.sound.before c.requires.served c.grow.ensures.sound.held c.grow.ensures.grew)
 
 pub returns-clause-refused : goal.returns-clause-refused
 returns-clause-refused c =

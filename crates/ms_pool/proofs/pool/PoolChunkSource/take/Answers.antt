@@ -10,7 +10,7 @@ returns-clause-served c =
     } in
     took_serves c.args.self.now c.args.account.now c.args.wanted c.args.most c.args.words c.take.result c.take.new.self
     c.take.new.account
-    c.take.ensures.before c.requires.served c.take.ensures.held asks c.take.ensures.took c.take.ensures.added
+    c.take.ensures.sound.before c.requires.served c.take.ensures.sound.held asks c.take.ensures.took c.take.ensures.added
     c.take.ensures.unchanged
 
 pub returns-clause-rest : goal.returns-clause-rest

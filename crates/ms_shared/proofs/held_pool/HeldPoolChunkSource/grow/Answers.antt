@@ -24,8 +24,8 @@ note-requires-clause-moves c =
     moves_held v c.self.inside.pool c.grow-answer.new.self c.self.invariant.3
     (kept_moves v.knows c.args.account.now.owner c.self.inside.pool c.grow-answer.new.self
     (own_times v.knows c.args.account.now serves)
-    (grew_keeps _ _ _ _ _ c.grow-answer.result _ c.grow-answer.ensures.before (served_by_pool _ v.knows _ c.self.invariant.5 serves)
-    c.grow-answer.ensures.held grew)
+    (grew_keeps _ _ _ _ _ c.grow-answer.result _ c.grow-answer.ensures.sound.before (served_by_pool _ v.knows _ c.self.invariant.5 serves)
+    c.grow-answer.ensures.sound.held grew)
     (grew_tallies _ _ _ _ _ c.grow-answer.result _ grew))
 
 pub invariant_of-self : goal.invariant_of-self
@@ -38,20 +38,20 @@ returns c =
     let v = c.self.inside.seat.me.0 in let e = c.grow-answer.ensures in let result =
     c.grow-answer.result in
     let call =
-    is_held_call _ _ v _ c.self.inside.pool c.grow-answer.new.self _ _ c.self.invariant.4 (ap (λ (h : HeldState). h.seat) c.self.view_is) c.self.invariant.5 c.grow-answer.ensures.before c.grow-answer.ensures.after c.self.invariant.3 c.note.ensures.seat c.note.ensures.own in
+    is_held_call _ _ v _ c.self.inside.pool c.grow-answer.new.self _ _ c.self.invariant.4 (ap (λ (h : HeldState). h.seat) c.self.view_is) c.self.invariant.5 c.grow-answer.ensures.sound.before c.grow-answer.ensures.sound.after c.self.invariant.3 c.note.ensures.seat c.note.ensures.own in
     let its = served_by_pool _ _ _ call.known c.requires.served in record {
       served = serves_then _ _ _ _ call c.args.account.now c.grow-answer.new.account c.requires.served
           (grew_owner _ _ _ _ _ _ result e.grown e.unchanged)
-          (grew_serves _ _ _ _ _ result _ _ call.sound its c.grow-answer.ensures.held e.grew e.grown e.unchanged);
+          (grew_serves _ _ _ _ _ result _ _ call.sound its c.grow-answer.ensures.sound.held e.grew e.grown e.unchanged);
       rest = rest_held _ _ _ (leaves_rest _ _ _ _ call c.args.account.now.owner
-          (grew_keeps _ _ _ _ _ result _ call.sound its c.grow-answer.ensures.held e.grew));
+          (grew_keeps _ _ _ _ _ result _ call.sound its c.grow-answer.ensures.sound.held e.grew));
       grown = subst
           (λ (l : Limits). IfOk result
           (λ span. Grows l.policy c.args.start c.args.total c.args.may_enlarge c.args.account.now span
           c.grow-answer.new.account)) call.known.limits e.grown;
       unchanged = e.unchanged;
       refused = grow_refusal _ _ _ _ _ result _ e.grew;
-      holds = on_ok result _ e.holds;
+      holds = on_ok result _ e.sound.holds;
       grew = (
         record {
           event = over_lock _ _ _ _ _ call e.grew;

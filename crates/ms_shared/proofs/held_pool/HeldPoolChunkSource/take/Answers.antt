@@ -35,7 +35,7 @@ pub returns : goal.returns
 returns c =
     let v = c.self.inside.seat.me.0 in let e = c.take-answer.ensures in let result =
     c.take-answer.result in let call =
-    is_held_call _ _ v _ c.self.inside.pool c.take-answer.new.self _ _ c.self.invariant.4 (ap (λ (h : HeldState). h.seat) c.self.view_is) c.self.invariant.5 c.take-answer.ensures.before c.take-answer.ensures.after c.self.invariant.3 c.note.ensures.seat c.note.ensures.own in
+    is_held_call _ _ v _ c.self.inside.pool c.take-answer.new.self _ _ c.self.invariant.4 (ap (λ (h : HeldState). h.seat) c.self.view_is) c.self.invariant.5 c.take-answer.ensures.sound.before c.take-answer.ensures.sound.after c.self.invariant.3 c.note.ensures.seat c.note.ensures.own in
     let asks : MayAsk c.args.wanted c.args.most c.args.words = record {
       may = c.requires.asks;
       real = e.level;
@@ -43,7 +43,7 @@ returns c =
       served = serves_then _ _ _ _ call c.args.account.now c.take-answer.new.account c.requires.served
           (took_owner _ _ _ _ _ _ result e.added e.unchanged)
           (took_serves _ _ _ _ _ result _ _ call.sound (served_by_pool _ _ _ call.known c.requires.served)
-          c.take-answer.ensures.held asks e.took e.added e.unchanged);
+          c.take-answer.ensures.sound.held asks e.took e.added e.unchanged);
       rest = rest_held _ _ _ (leaves_rest _ _ _ _ call c.args.account.now.owner (took_keeps _ _ _ _ _ result _ e.took));
       added = subst
           (λ (l : Limits). IfOk result
@@ -51,7 +51,7 @@ returns c =
           c.take-answer.new.account)) call.known.limits e.added;
       unchanged = e.unchanged;
       refused = take_refusal _ _ _ _ _ result _ e.took;
-      holds = on_ok result _ e.holds;
+      holds = on_ok result _ e.sound.holds;
       took = (
         record {
           event = over_lock _ _ _ _ _ call e.took;

@@ -29,7 +29,7 @@ pub returns : goal.returns
 returns g c =
     let v = c.self.inside.seat.me.0 in let pool = c.seize-pool.ensures in let e = c.take-answer.ensures in let result =
     c.take-answer.result in let call =
-    is_call _ _ v _ c.seize-pool.result c.take-answer.new.self _ _ c.self.invariant.4 c.self.view_is pool.known c.take-answer.ensures.before c.take-answer.ensures.after pool.seat
+    is_call _ _ v _ c.seize-pool.result c.take-answer.new.self _ _ c.self.invariant.4 c.self.view_is pool.known c.take-answer.ensures.sound.before c.take-answer.ensures.sound.after pool.seat
     c.let_go.ensures.seat (c.let_go.ensures.own ∙ pool.own) in
     let asks : MayAsk c.args.wanted c.args.most c.args.words = record {
       may = c.requires.asks;
@@ -38,7 +38,7 @@ returns g c =
       served = serves_then _ _ _ _ call c.args.account.now c.take-answer.new.account c.requires.served
           (took_owner _ _ _ _ _ _ result e.added e.unchanged)
           (took_serves _ _ _ _ _ result _ _ call.sound (served_by_pool _ _ _ call.known c.requires.served)
-          c.take-answer.ensures.held asks e.took e.added e.unchanged);
+          c.take-answer.ensures.sound.held asks e.took e.added e.unchanged);
       rest = leaves_rest _ _ _ _ call c.args.account.now.owner (took_keeps _ _ _ _ _ result _ e.took);
       added = subst
           (λ (l : Limits). IfOk result
@@ -46,7 +46,7 @@ returns g c =
           c.take-answer.new.account)) call.known.limits e.added;
       unchanged = e.unchanged;
       refused = take_refusal _ _ _ _ _ result _ e.took;
-      holds = on_ok result _ e.holds;
+      holds = on_ok result _ e.sound.holds;
       took = record {
         event = over_lock _ _ _ _ _ call e.took;
         tallies = take_raises _ _ _ _ call _ _ _ _ result e.took;
