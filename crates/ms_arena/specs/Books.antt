@@ -91,7 +91,7 @@ pub record MayHold (books : BooksView) (n : ℕ) : Type 0 where
   pub ordered : books.came ≡ 0
 
 -- What whoever has a source serve a placing has to see to.
-pub record CanPlace {S : Type 0} (serves : S → AccountState → Type 0) (source : S) (books : BooksView)
+pub record CanTakeChunk {S : Type 0} (serves : S → AccountState → Type 0) (source : S) (books : BooksView)
     (wanted most n : ℕ) : Type 0 where
   pub served : serves source (account_in books)
   pub levels : wanted ≤ most

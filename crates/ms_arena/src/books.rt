@@ -20,7 +20,7 @@ ghost use Rattle.ms_base.specs.Totals.{used_of, kept_of};
 ghost use Rattle.ms_blocks.specs.FreeBlocks.{MayBeKept, run_of};
 ghost use Rattle.ms_pool.specs.Account.{AreChunks};
 ghost use Rattle.ms_pool.specs.Source.{LeavesRest, IsTakeRefusal};
-ghost use Rattle.ms_arena.specs.Books.{Awaits, AwaitsBlock, BooksView, CanPlace, CanReach, HasGrown, HasTaken, Leaves, MayHold};
+ghost use Rattle.ms_arena.specs.Books.{Awaits, AwaitsBlock, BooksView, CanTakeChunk, CanReach, HasGrown, HasTaken, Leaves, MayHold};
 ghost use Rattle.ms_arena.specs.Books.{IsCurrent, PlacesFree, MayRetire, StayCounted, tops_retired, kept_retired};
 ghost use Rattle.ms_arena.specs.Books.{account_in};
 
@@ -262,7 +262,7 @@ impl Books {
         most: Level,
         n: u64,
     ) -> Result<u64, Refusal>
-        requires { CanPlace S.serves source.old self.old wanted most n }
+        requires { CanTakeChunk S.serves source.old self.old wanted most n }
         ensures served { S.serves source.new (account_in self.new) }
         ensures rest { LeavesRest S.serves S.opened S.limits self.old.owner source.old source.new }
         ensures taken { IfOk result (λ start. HasTaken S.took (S.limits source.old).policy self.old
