@@ -21,8 +21,8 @@ from workbench import Workbench, build
 from claims import Skipped, Wrong
 
 SUBJECTS = ("hostile", "growths", "limits", "peaks", "devices", "texts", "faults", "options", "examples", "rows", "schedules",
-            "orders", "scripts", "release", "metalog", "jvm", "calls", "library", "twin", "pages", "words", "lengths", "forms", "browser",
-            "naming")
+            "orders", "scripts", "release", "metalog", "jvm", "calls", "library", "twin", "pages", "words", "contracts", "lengths", "forms",
+            "browser", "naming")
 PASSED, FAILED, SKIPPED = "ok", "FAILED", "skipped"
 GROWTHS = re.compile(r"\b(\d+) growths\b")
 bench = None
