@@ -49,10 +49,11 @@ pub fn answer_alone<G: Gate, S: AnswerSink>(
     ensures gated { OnOk result (AreGated (G.told manner.now.gate.now) (λ name. manner.now.worker) lines.now) }
 {
     let mut run = begin_run(manner.alloc, settings, manner.verbosity)?;
+    let counts = manner.gate.looks() | run.peaks.is_some();
     let manner = Manner {
         alloc: manner.alloc,
         worker: manner.worker,
-        counts: manner.gate.looks() | run.peaks.is_some(),
+        counts,
         gate: manner.gate,
         verbosity: manner.verbosity,
     };

@@ -64,9 +64,10 @@ pub fn run_phase<R: Threads + Wait + Sync, G: Gate + Sync, S: AnswerSink>(
         // Into a list, so that the loop that puts each answer into the sink has one user, and is
         // inlined there.
         let mut answers = Vec::new(manner.alloc);
+        let worker = turn.worker(0);
         let alone = Manner {
             alloc: manner.alloc,
-            worker: turn.worker(0),
+            worker,
             counts: true,
             gate: manner.gate,
             verbosity: manner.verbosity,
