@@ -1,9 +1,8 @@
 -- What an observer sees of a run by one worker (this project's choice).
-use Rattle.std.specs.Prelude.{◌≡◌, ℕ, ◌+◌, ◌-◌, ◌%◌, ◌^◌, List, [], ◌∷◌, ◌++◌, Option, Some, None, IfSome, length}
+use Rattle.std.specs.Prelude.{◌≡◌, ℕ, ◌+◌, ◌-◌, ◌%◌, ◌^◌, List, [], ◌∷◌, Option, Some, None, IfSome, length}
 use Rattle.std.specs.List.{All}
-use Rattle.ms_base.specs.declared.step.Reply.{Reply}
 use Rattle.ms_base.specs.Names.{named}
-use Rattle.ms_base.specs.State.{Limits, LoaderState, Machine, empty_machine}
+use Rattle.ms_base.specs.State.{Limits, LoaderState, empty_machine}
 use Rattle.ms_trace.specs.declared.trace.Line.{Line}
 use Rattle.ms_loader.specs.declared.amounts.Amounts.{Amounts}
 use Rattle.ms_answers.specs.declared.verbosity.Verbosity.TheVariants.{Full}

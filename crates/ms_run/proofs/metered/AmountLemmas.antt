@@ -1,6 +1,6 @@
 -- The words in use and live of a machine over one line: what the loader that the line names got or
 -- lost is what their sums did; and how the machine then stands. For observing.rt.
-use Rattle.std.proofs.Common.{◌≡◌, ◌≢◌, ◌<◌, ◌≤◌, ◌+◌, ◌*◌, ◌-◌, ◌%◌, ◌^◌, ℕ, Option, Some, None, List, []}
+use Rattle.std.proofs.Common.{◌≡◌, ◌≢◌, ◌<◌, ◌≤◌, ◌+◌, ◌*◌, ◌^◌, ℕ, Option, Some, None, List, []}
 use Rattle.std.proofs.Common.{◌∷◌, refl, sym, ap, ap₂, ◌∙◌, subst, length, arith}
 use Rattle.std.specs.List.{sum_by}
 use Rattle.std.specs.Map.{values_of}
