@@ -130,8 +130,7 @@ may_be node words part front is some within = record {
     from = omega arith;
     to = omega (arith, is.aligned, holder_fits part.level part.start is.low is.root.in_root);
   };
-  some = some;
-  within = within;
+  fits = (some, within);
 }
 
 -- The leaf in which a part was lent was free.

@@ -1,5 +1,5 @@
 -- What is true of the lent leaves of each tree, and what the callers of a split tree learn of it.
-use Rattle.std.proofs.Common.{◌<◌, ◌≤◌, ℕ, ◌+◌, List, [], ◌∷◌, ◌++◌}
+use Rattle.std.proofs.Common.{◌≤◌, ℕ, ◌+◌, List, [], ◌∷◌, ◌++◌}
 use Rattle.std.proofs.Common.{refl, subst, arith}
 use Rattle.std.specs.List.{AllByRecursion}
 use Rattle.ms_base.specs.Level.{root_words, size_of}
@@ -7,7 +7,7 @@ use Rattle.ms_base.specs.Part.{IsPart}
 use Rattle.ms_buddy.specs.Tree.{Node}
 use Rattle.ms_buddy.specs.Tree.{Free, Lent, Split}
 use Rattle.ms_buddy.specs.FreeBits.{IsKept}
-use Rattle.ms_buddy.specs.Leaves.{LentLeaf, AreInOrder, AreLeaves}
+use Rattle.ms_buddy.specs.Leaves.{LentLeaf, AreInOrder, AreLeaves, IsFront}
 use Rattle.ms_buddy.specs.Tree.{IsRootPart, IsTree, lent_in}
 use Rattle.ms_buddy.proofs.TreeHalvesLemmas.{lower_part, upper_part}
 use Rattle.ms_buddy.proofs.WalkLemmas.{LeafIn, all_joined, all_weaker, lent_lies_in}
@@ -53,11 +53,11 @@ lent_parts level start (Split lower upper) tree of_root =
     (upper_part level start (start + size_of (level + 1)) of_root tree.0 refl))
 
 lent_fronts : (level start : ℕ) (node : Node) → IsTree level node
-    → AllByRecursion (λ leaf. (0 < leaf.front) × (leaf.front ≤ size_of leaf.level)) (lent_in level start node)
+    → AllByRecursion (λ leaf. IsFront (size_of leaf.level) leaf.front) (lent_in level start node)
 lent_fronts level start Free tree = tt
 lent_fronts level start (Lent owner front) tree = (tree, tt)
 lent_fronts level start (Split lower upper) tree =
-    all_joined (λ leaf. (0 < leaf.front) × (leaf.front ≤ size_of leaf.level))
+    all_joined (λ leaf. IsFront (size_of leaf.level) leaf.front)
     (lent_in (level + 1) start lower) (lent_in (level + 1) (start + size_of (level + 1)) upper)
     (lent_fronts (level + 1) start lower tree.2) (lent_fronts (level + 1) (start + size_of (level + 1)) upper tree.3)
 

@@ -16,7 +16,7 @@ use Rattle.ms_buddy.specs.declared.leaf.Leaf.{Leaf}
 use Rattle.ms_buddy.specs.declared.leaf.Leaf.TheVariants.{Free as FreeLeaf, Lent as LentTo}
 use Rattle.ms_buddy.specs.Leaves.{AreInOrder, IsLeafAt, LendsAt, LentLeaf, can_enlarge, covers, is_lent, span_at}
 use Rattle.ms_buddy.specs.Leaves.{without_leaf}
-use Rattle.ms_buddy.specs.Entries.{IsFront, lending_at, lent_from}
+use Rattle.ms_buddy.specs.Entries.{FitsEntry, lending_at, lent_from}
 use Rattle.ms_buddy.specs.Tree.{Node, IsSplit, IsTree, free_in, lent_in}
 use Rattle.ms_buddy.proofs.TreeHalvesLemmas.{holder_is}
 use Rattle.ms_buddy.proofs.bits.BuddyLemmas.{number_of-holder}
@@ -68,7 +68,7 @@ lent_here entries counts words filled told part kept same lent =
     }
 
 -- An entry can hold the front of a part, and of its parent, which is twice as large.
-pub front_fits : (level front : ℕ) → 0 < front → front ≤ 2 * size_of level → IsFront front
+pub front_fits : (level front : ℕ) → 0 < front → front ≤ 2 * size_of level → FitsEntry front
 front_fits level front some within = (some, omega (arith, within, size_falls 0 level (omega arith)))
 
 -- What a release to the level that the bits tell leaves.

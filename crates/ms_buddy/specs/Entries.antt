@@ -58,6 +58,6 @@ pub packed_again : (owner packed : ℕ) → packed_of (lending_in owner packed) 
 packed_again owner zero = refl
 packed_again owner (suc n) = div-add-mod (suc n) 16
 
--- A front is a number of words from 1 on, which fits beside a level.
-abbrev pub IsFront : ℕ → Type 0
-IsFront front = (0 < front) × (front < 2 ^ 28)
+-- A front has a word at least, and an entry keeps it beside a level, in 32 bits.
+abbrev pub FitsEntry : ℕ → Type 0
+FitsEntry front = (0 < front) × (front < 2 ^ 28)

@@ -157,5 +157,5 @@ AreInOrder (leaf ∷ lent) =
 pub record AreLeaves (lent : List LentLeaf) : Type 0 where
   pub parts : AllByRecursion (λ leaf. IsPart leaf.start leaf.level) lent
   pub in_root : AllByRecursion (λ leaf. leaf.start + size_of leaf.level ≤ root_words) lent
-  pub fronts : AllByRecursion (λ leaf. (0 < leaf.front) × (leaf.front ≤ size_of leaf.level)) lent
+  pub fronts : AllByRecursion (λ leaf. IsFront (size_of leaf.level) leaf.front) lent
   pub in_order : AreInOrder lent

@@ -4,7 +4,7 @@ use Rattle.std.specs.Prelude.{List, [], ◌∷◌, ◌++◌, IsFalse}
 use Rattle.ms_base.specs.declared.span.Span.{Span}
 use Rattle.ms_base.specs.Level.{root_words, size_of, highest_level}
 use Rattle.ms_base.specs.Part.{IsPart}
-use Rattle.ms_buddy.specs.Leaves.{LentLeaf}
+use Rattle.ms_buddy.specs.Leaves.{IsFront, LentLeaf}
 
 -- A part of a root: a free leaf, a leaf that is lent to an owner with a front, or split in its
 -- halves. No code has it: it is there for each root, and says how the lent leaves and the free ones
@@ -29,7 +29,7 @@ is_free (Split lower upper) = false
 -- No split has two free halves or is of level 12, and each front has a word and fits.
 abbrev pub IsTree : ℕ → Node → Type 0
 IsTree level Free = Unit {0}
-IsTree level (Lent owner front) = (0 < front) × (front ≤ size_of level)
+IsTree level (Lent owner front) = IsFront (size_of level) front
 IsTree level (Split lower upper) =
     (level < highest_level) × IsFalse (is_free lower && is_free upper) × IsTree (level + 1) lower
     × IsTree (level + 1) upper
@@ -80,5 +80,4 @@ pub record MayBeLent (level start : ℕ) (part : Span) (front : ℕ) : Type 0 wh
   pub of_root : IsRootPart level start
   pub is_part : IsPart part.start part.level
   pub inside : IsInside level start part
-  pub some : 0 < front
-  pub within : front ≤ size_of part.level
+  pub fits : IsFront (size_of part.level) front

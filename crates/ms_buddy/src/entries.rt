@@ -10,7 +10,7 @@
 //! once. After HotSpot, where each chunk has a header; a table is this project's choice.
 ghost use Rattle.std.specs.Prelude.{◌≡◌, ℕ, ◌<◌, ◌≤◌, IsTrue, [], ◌∷◌, Some, None, OnOk, OnErr, length, slice_set};
 ghost use Rattle.ms_buddy.specs.declared.entries.Lending.{Lending};
-ghost use Rattle.ms_buddy.specs.Entries.{IsFront, lending_at, lent_from};
+ghost use Rattle.ms_buddy.specs.Entries.{FitsEntry, lending_at, lent_from};
 
 use ms_base::Level;
 use std::alloc::{AllocError, Allocator};
@@ -66,7 +66,7 @@ impl Model for Entry {
 impl Entry {
     /// Keeps what is lent.
     pub(crate) fn of(lending: Lending) -> Entry
-        requires { IsFront lending.front }
+        requires { FitsEntry lending.front }
         ensures { result ≡ Some lending }
     {
         Entry {
@@ -167,7 +167,7 @@ impl<A: Allocator> Entries<A> {
     pub(crate) fn change(&mut self, index: usize, level: Level, front: u32)
         requires within { index < length self.old }
         requires few { index < 4096 }
-        requires front { IsFront front }
+        requires front { FitsEntry front }
         ensures { (lending : Lending) → lending_at self.old index ≡ Some lending
             → self.new ≡ slice_set self.old index
             (Some (record { level = level; owner = lending.owner; front = front })) }

@@ -86,8 +86,7 @@ impl<A: Allocator> Node<A> {
         requires tree { IsTree level (shape_of self.old) }
         requires of_root { IsRootPart level start }
         requires lent { IsTrue (is_lent (lent_in level start (shape_of self.old)) span) }
-        requires some { 0 < front }
-        requires within { front ≤ size_of span.level }
+        requires front { IsFront (size_of span.level) front }
         ensures tree { IsTree level (shape_of self.new) }
         ensures free { is_free (shape_of self.new) ≡ is_free (shape_of self.old) }
         ensures lent { lent_in level start (shape_of self.new)

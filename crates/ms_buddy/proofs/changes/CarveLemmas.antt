@@ -66,8 +66,7 @@ lower_may part level start half front may h size below = record {
   of_root = lower_part level start may.of_root (omega (arith, may.is_part.0));
   is_part = may.is_part;
   inside = lower_inside part level start half may.of_root h may.is_part may.inside size below;
-  some = may.some;
-  within = may.within;
+  fits = may.fits;
 }
 
 pub upper_may : (part : Span) (level start half front : ℕ) → MayBeLent level start part front → level < part.level
@@ -76,8 +75,7 @@ upper_may part level start half front may h size above = record {
   of_root = upper_part level start (start + half) may.of_root (omega (arith, may.is_part.0)) (omega (arith, size));
   is_part = may.is_part;
   inside = upper_inside part level start half h may.is_part.0 may.inside size above;
-  some = may.some;
-  within = may.within;
+  fits = may.fits;
 }
 
 -- A part lies in no part past its start, and in none that ends before it does.

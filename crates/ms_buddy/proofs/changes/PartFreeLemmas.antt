@@ -5,7 +5,7 @@ use Rattle.std.proofs.lemmas.List.{append-nil}
 use Rattle.ms_base.specs.declared.span.Span.{Span}
 use Rattle.ms_base.specs.Level.{size_of, highest_level}
 use Rattle.ms_buddy.specs.Counts.{IsParted}
-use Rattle.ms_buddy.specs.Leaves.{leaf_of, span_at}
+use Rattle.ms_buddy.specs.Leaves.{IsFront, leaf_of, span_at}
 use Rattle.ms_buddy.specs.Tree.{Node, Free, Lent, Split, IsTree, MayBeLent, free_in, is_free, lent_in}
 use Rattle.ms_buddy.proofs.changes.CarveLemmas.{lower_may, upper_may}
 use Rattle.ms_buddy.proofs.counts.CountLemmas.{lower_half_parted, upper_half_parted, whole_parted}
@@ -21,7 +21,7 @@ pub record IsPartedFor (level start : ℕ) (part : Span) (owner front : ℕ) (no
 whole_for : (part : Span) (level start owner front : ℕ) → MayBeLent level start part front → level ≡ part.level
     → IsPartedFor level start part owner front (Lent owner front)
 whole_for part level start owner front may same = record {
-  tree = (may.some, subst (λ (n : ℕ). front ≤ size_of n) (sym same) may.within);
+  tree = subst (λ (n : ℕ). IsFront (size_of n) front) (sym same) may.fits;
   split = refl;
   lent = rw (starts, same) refl;
   parted = whole_parted (span_at start level) part may.of_root.level_fits (sym same);

@@ -18,8 +18,7 @@ carve-requires-clause-may g c = record {
     to = ends_in (record { start = c.args.at; level = c.args.level }) 0 0 (omega arith, c.requires.aligned)
         (omega arith, refl) (omega arith) (omega arith) c.requires.in_root;
   };
-  some = c.requires.front.0;
-  within = c.requires.front.1;
+  fits = c.requires.front;
 }
 
 pub returns-clause-no_room : goal.returns-clause-no_room
