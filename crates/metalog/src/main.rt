@@ -1,17 +1,8 @@
-//! `metalog` makes a trace of the log of a JVM's metaspace.
+//! `metalog` makes a trace of the log of a JVM's metaspace. The session is that of `log_session`, over
+//! the command line and the standard devices.
 #![tactic(auto)]
 
-mod conversion;
-mod failure;
-mod joining;
-mod naming;
-mod options;
-mod output;
-mod session;
-mod start;
-mod warnings;
-
-use crate::start::start;
+pub use log_session::{Options, Refused, Reports, options_of, session, start};
 use std::env;
 use std::io::{self, BufReader, ErrorKind};
 use std::process::ExitCode;

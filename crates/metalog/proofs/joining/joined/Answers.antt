@@ -1,7 +1,0 @@
-use Rattle.std.proofs.Common.{[], List, subst, sym}
-use Rattle.jvm_log.specs.declared.placed.Placed.{Placed}
-use Rattle.metalog.specs.Joining.{IsJoined, none}
-use Rattle.metalog.proofs.joining.joined.Goals as goal
-
-pub loop-at-init : goal.loop-at-init
-loop-at-init c = subst (λ (items : List Placed). IsJoined c.args.most [] items) (sym c.in_ok-joined.ensures.items) none

@@ -1,7 +1,0 @@
--- The lines of the loaders passed so far.
-use Rattle.std.proofs.Common.{◌≡◌, take}
-use Rattle.metalog.specs.Naming.{names_text}
-use Rattle.metalog.proofs.naming.Naming.text.Given as goal
-
-abbrev pub invariant-loop-birth : goal.invariant-loop-birth
-invariant-loop-birth l = l.text.items ≡ names_text l.self.texts.entries 0 (take l.birth l.self.numbers.items)
