@@ -17,7 +17,7 @@ ghost use Rattle.ms_run.specs.Sink.{AreOfLines, AreOfRun, IsOfLine, Puts, PutsAl
 ghost use Rattle.ms_trace.specs.Steps.{step_of};
 
 use crate::between::answer_between;
-use crate::gate::{Gate, Manner};
+use crate::gate::{Gate, Manner, Worker};
 use crate::peaks::{begin, raise};
 use ms_answers::{Answer, AnswerSink, Peaks, Replies, Verbosity};
 use ms_base::{Reply, Settings, Step};
@@ -36,8 +36,8 @@ pub struct Metered {
     pub peaks: Option<Peaks>,
 }
 
-/// Answers the lines in their order, from a system without loaders on, that goes with them. The words
-/// in use are counted on where the gate looks at them, or full reports need them.
+/// Answers the lines in their order as worker 0, from a system without loaders on, that goes with
+/// them. The words in use are counted on where the gate looks at them, or full reports need them.
 pub fn answer_alone<G: Gate, S: AnswerSink>(
     manner: &Manner<'_, G>,
     settings: Settings,
@@ -46,18 +46,15 @@ pub fn answer_alone<G: Gate, S: AnswerSink>(
 ) -> Result<(), AllocError>
     ensures answers { OnOk result (Puts S.took
         (AreOfRun (limits_of settings) manner.now.verbosity lines.now) sink.old sink.new) }
-    ensures gated { OnOk result (AreGated (G.told manner.now.gate.now) (λ name. manner.now.worker) lines.now) }
+    ensures gated { OnOk result (AreGated (G.told manner.now.gate.now) (λ name. 0) lines.now) }
 {
     let mut run = begin_run(manner.alloc, settings, manner.verbosity)?;
-    let counts = manner.gate.looks() | run.peaks.is_some();
-    let manner = Manner {
-        alloc: manner.alloc,
-        worker: manner.worker,
-        counts,
-        gate: manner.gate,
-        verbosity: manner.verbosity,
+    let worker = Worker {
+        manner,
+        number: 0,
+        counts: manner.gate.looks() | run.peaks.is_some(),
     };
-    answer_lines(&manner, lines, &mut run, sink)
+    answer_lines(&worker, lines, &mut run, sink)
 }
 
 /// Begins a run: a system without loaders, and peaks where reports shall be full.
@@ -83,51 +80,51 @@ pub fn begin_run(
 /// Answers the lines in their order. The words in use are counted on where that is asked for, and
 /// else stay as they were; for full reports they have to be, and peaks are kept from line to line.
 pub fn answer_lines<G: Gate, S: AnswerSink>(
-    manner: &Manner<'_, G>,
+    worker: &Worker<'_, G>,
     lines: &[Line],
     run: &mut Metered,
     sink: &mut S,
 ) -> Result<(), AllocError>
-    requires { IsCounted manner.now.counts manner.now.verbosity run.old }
+    requires { IsCounted worker.now.counts worker.now.manner.now.verbosity run.old }
     ensures answers { OnOk result
-        (Puts S.took (AreOfLines manner.now.verbosity run.old lines.now run.new) sink.old sink.new) }
-    ensures counted { OnOk result (IsCounted manner.now.counts manner.now.verbosity run.new) }
-    ensures gated { OnOk result (AreGated (G.told manner.now.gate.now) (λ name. manner.now.worker) lines.now) }
+        (Puts S.took (AreOfLines worker.now.manner.now.verbosity run.old lines.now run.new) sink.old sink.new) }
+    ensures counted { OnOk result (IsCounted worker.now.counts worker.now.manner.now.verbosity run.new) }
+    ensures gated { OnOk result (AreGated (G.told worker.now.manner.now.gate.now) (λ name. worker.now.number) lines.now) }
 {
     for line in lines {
-        answer_line(manner, line, run, sink)?;
+        answer_line(worker, line, run, sink)?;
     }
     Ok(())
 }
 
 /// Answers a line: one that asks a step between the gate's two calls. Returns the reply.
 pub fn answer_line<G: Gate, S: AnswerSink>(
-    manner: &Manner<'_, G>,
+    worker: &Worker<'_, G>,
     line: &Line,
     run: &mut Metered,
     sink: &mut S,
 ) -> Result<Reply, AllocError>
-    requires { IsCounted manner.now.counts manner.now.verbosity run.old }
+    requires { IsCounted worker.now.counts worker.now.manner.now.verbosity run.old }
     ensures answered { IfOk result (λ reply.
-        Puts S.took (IsOfLine manner.now.verbosity run.old line.now reply run.new) sink.old sink.new) }
-    ensures counted { OnOk result (IsCounted manner.now.counts manner.now.verbosity run.new) }
-    ensures gated { OnOk result (IsGatedBy (G.told manner.now.gate.now) (λ name. manner.now.worker)
+        Puts S.took (IsOfLine worker.now.manner.now.verbosity run.old line.now reply run.new) sink.old sink.new) }
+    ensures counted { OnOk result (IsCounted worker.now.counts worker.now.manner.now.verbosity run.new) }
+    ensures gated { OnOk result (IsGatedBy (G.told worker.now.manner.now.gate.now) (λ name. worker.now.number)
         line.now (step_of line.now.command)) }
 {
     let Command::Step(step) = line.command() else {
-        answer_between(manner, run, None, line, sink)?;
+        answer_between(worker.manner, run, None, line, sink)?;
         return Ok(Reply::Ok);
     };
     let number = line.number();
-    manner.gate.before(manner.worker, number);
-    let before = used_by(manner.counts, &run.system, &step);
+    worker.manner.gate.before(worker.number, number);
+    let before = used_by(worker.counts, &run.system, &step);
     let reply = run.system.step(step);
     put_reply(number, &reply, sink)?;
-    let after = used_by(manner.counts, &run.system, &step);
+    let after = used_by(worker.counts, &run.system, &step);
     // A difference modulo 2^64, as the meter counts.
     run.used = run.used.wrapping_add(after).wrapping_sub(before);
     raise(&mut run.peaks, &run.system, run.used);
-    manner.gate.after(manner.worker, number, run.used);
+    worker.manner.gate.after(worker.number, number, run.used);
     Ok(reply)
 }
 

@@ -42,18 +42,25 @@ impl Gate for NoGate {
     }
 }
 
-/// How lines are answered: by whom, in what memory, which gate is called round them, and how much
-/// reports tell.
+/// How a replay answers lines: in what memory, which gate it calls round them, and how much reports
+/// tell.
 #[derive(Drop)]
 pub struct Manner<'a, G> {
     /// What memory is taken from.
     pub alloc: Global,
-    /// The number of the worker that answers them.
-    pub worker: usize,
-    /// Whether the words in use are counted on.
-    pub counts: bool,
     /// The gate.
     pub gate: &'a G,
     /// What reports tell.
     pub verbosity: Verbosity,
+}
+
+/// Who answers lines, in a replay's manner.
+#[derive(Drop)]
+pub struct Worker<'a, G> {
+    /// The replay's manner.
+    pub manner: &'a Manner<'a, G>,
+    /// The worker's number, from 0 on.
+    pub number: usize,
+    /// Whether the worker counts the words in use on.
+    pub counts: bool,
 }

@@ -23,7 +23,7 @@ ghost use Rattle.ms_run.specs.Workers.{named_by};
 use crate::alone::{Metered, answer_line, begin_run};
 use crate::between::totals_of;
 use crate::fault::RunFault;
-use crate::gate::{Manner, NoGate};
+use crate::gate::{Manner, NoGate, Worker};
 use crate::observer::Observer;
 use crate::turn::loader_named;
 use ms_answers::{AnswerSink, Totals, Verbosity};
@@ -101,12 +101,15 @@ fn watch_line<S: AnswerSink, O: Observer>(
     let before = amounts_at(&run.system, name);
     let manner = Manner {
         alloc,
-        worker: 0,
-        counts: true,
         gate: &NoGate,
         verbosity: Verbosity::Full,
     };
-    let reply = answer_line(&manner, line, run, sink)?;
+    let worker = Worker {
+        manner: &manner,
+        number: 0,
+        counts: true,
+    };
+    let reply = answer_line(&worker, line, run, sink)?;
     let after = amounts_at(&run.system, name);
     let now = moved(amounts, before, after);
     let stands = standing(&run.system, now);

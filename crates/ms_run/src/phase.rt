@@ -24,7 +24,7 @@ ghost use Rattle.ms_run.specs.Turn.{worker_in, HaveOwnShares, IsSameTurn, TurnSt
 use crate::alone::{Metered, answer_lines};
 use crate::dealing::deal;
 use crate::fault::RunFault;
-use crate::gate::{Gate, Manner};
+use crate::gate::{Gate, Manner, Worker};
 use crate::gathering::{fault_of, gather};
 use crate::merging::merge;
 use crate::peaks::raise;
@@ -64,15 +64,12 @@ pub fn run_phase<R: Threads + Wait + Sync, G: Gate + Sync, S: AnswerSink>(
         // Into a list, so that the loop that puts each answer into the sink has one user, and is
         // inlined there.
         let mut answers = Vec::new(manner.alloc);
-        let worker = turn.worker(0);
-        let alone = Manner {
-            alloc: manner.alloc,
-            worker,
+        let worker = Worker {
+            manner,
+            number: turn.worker(0),
             counts: true,
-            gate: manner.gate,
-            verbosity: manner.verbosity,
         };
-        answer_lines(&alone, lines, &mut run, &mut answers)?;
+        answer_lines(&worker, lines, &mut run, &mut answers)?;
         put_all(answers, sink)?;
         return Ok(run);
     }

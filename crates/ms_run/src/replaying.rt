@@ -115,8 +115,6 @@ pub fn replay_into<R: Threads + Wait + Sync, G: Gate + Sync, S: AnswerSink>(
     let lines = trace.lines.as_slice();
     let manner = Manner {
         alloc,
-        worker: 0,
-        counts: true,
         gate,
         verbosity,
     };

@@ -37,8 +37,8 @@ returns-then-shares-eq1-clause-gated g c =
       phase = c.activate.ensures.phase;
       workers = c.activate.ensures.workers;
     })
-    (alone_gated (g.G.Gate.told c.args.manner.now.gate.now) c.activate.new.self c.args.lines.now c.worker-worker.result
-    (sym c.shares.ensures.count ∙ c.if-shares-eq1.true) c.worker-worker.ensures c.activate.ensures.shares
+    (alone_gated (g.G.Gate.told c.args.manner.now.gate.now) c.activate.new.self c.args.lines.now c.worker.result
+    (sym c.shares.ensures.count ∙ c.if-shares-eq1.true) c.worker.ensures c.activate.ensures.shares
     c.in_ok-answer_lines.ensures.gated)
 
 pub returns-clause-gated : goal.returns-clause-gated
