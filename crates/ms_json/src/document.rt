@@ -84,16 +84,17 @@ impl Document {
         ensures { OnOk result ((first : DocumentView) (before : List AnswerOf) → Tells first self.old before
             → Tells first self.new (before ++ answer.now ∷ [])) }
     {
-        let pushed = push_answer(
+        let told = push_told(
             &mut self.text,
             &mut self.later,
             &mut self.pending,
-            &mut self.reports,
-            &mut self.more,
-            &self.refusals,
             self.addresses,
             answer,
         );
+        let pushed = match told {
+            Ok(()) => push_reported(&mut self.reports, &mut self.more, &self.refusals, answer),
+            Err(error) => Err(error),
+        };
         match pushed {
             Ok(()) => {
                 count(&mut self.refusals, answer.reply);
@@ -176,33 +177,6 @@ fn push_rest(text: &mut String, reports: &str, settings: &Settings) -> Result<()
     push_label(text, true, "word bytes")?;
     push_number(text, 8)?;
     text.push_str("}\n")
-}
-
-/// Appends the elements that are complete with an answer, and the state that its report shows.
-fn push_answer(
-    text: &mut String,
-    later: &mut bool,
-    pending: &mut Option<Run>,
-    reports: &mut String,
-    more: &mut bool,
-    refusals: &Refusals,
-    addresses: bool,
-    answer: &Answer,
-) -> Result<(), AllocError>
-    ensures text { OnOk result (string_bytes text.new
-        ≡ string_bytes text.old
-        ++ elements_run later.old (told_by addresses pending.old answer.now).0) }
-    ensures later { OnOk result
-        (later.new ≡ is_later later.old (told_by addresses pending.old answer.now).0) }
-    ensures run { OnOk result (pending.new ≡ (told_by addresses pending.old answer.now).1) }
-    ensures reports { OnOk result (string_bytes reports.new
-        ≡ string_bytes reports.old
-        ++ elements_run more.old (reported refusals.now answer.now.line answer.now.report)) }
-    ensures more { OnOk result (more.new
-        ≡ is_later more.old (reported refusals.now answer.now.line answer.now.report)) }
-{
-    push_told(text, later, pending, addresses, answer)?;
-    push_reported(reports, more, refusals, answer)
 }
 
 /// Appends the state that an answer's report shows, where it has one.
