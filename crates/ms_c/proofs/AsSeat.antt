@@ -7,8 +7,8 @@ use Rattle.std_alloc.proofs.BoxSteps.Form.{Bx}
 use Rattle.std_heap.specs.contracts.Global as Heap
 use Rattle.std_heap.specs.contracts.GlobalAllocator.TheImpl.{ghosts, dict}
 use Rattle.std_heap.proofs.Global.TheLaws as heap
-use Rattle.ms_c.specs.contracts.member.Member as Member
-use Rattle.ms_c.proofs.member.Member.TheLaws as member
+use Rattle.ms_member.specs.contracts.member.Member as Member
+use Rattle.ms_member.proofs.member.Member.TheLaws as member
 use Rattle.ms_c.specs.Seating.{Seated}
 use Rattle.ms_c.specs.contracts.parts.Parts as Parts
 use Rattle.ms_c.specs.contracts.seat_slot.SeatSlot as SeatSlot

@@ -1,12 +1,4 @@
-pub mod AloneLemmas
-pub mod ArenasLemmas
 pub mod AsBox
 pub mod AsSeat
-pub mod BareLemmas
-pub mod BitLemmas
-pub mod HostedLemmas
 pub mod RunLemmas
-pub mod SeatedLemmas
-pub mod ServedLemmas
-pub mod TakingLemmas
 pub mod Walking

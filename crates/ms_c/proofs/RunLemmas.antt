@@ -7,8 +7,8 @@ use Rattle.std.proofs.lemmas.Bool.{cases_lt, cases_eq}
 use Rattle.std.proofs.lemmas.Bool.Decides.{nat_tests}
 use Rattle.std.proofs.lemmas.List.{get_or_past}
 use Rattle.std.proofs.lemmas.List.FromFn.{get_or-map-range_with_len, length-map-range_with_len}
-use Rattle.ms_c.specs.declared.runs.Run.{Run}
-use Rattle.ms_c.specs.Uncommitted.{is_uncommitted}
+use Rattle.ms_member.specs.declared.runs.Run.{Run}
+use Rattle.ms_member.specs.Uncommitted.{is_uncommitted}
 use Rattle.ms_c.specs.Laws.{AreAsked, AreApart, is_of_one}
 
 -- Whether a number is one of a run.

@@ -12,16 +12,16 @@ use Rattle.ms_loaders.specs.declared.system.sums.LoaderTotals.{LoaderTotals}
 use Rattle.ms_c.specs.declared.answer.Answer.{Answer}
 use Rattle.ms_c.specs.declared.totals.LoaderSums.{LoaderSums}
 use Rattle.ms_c.specs.declared.options.Options.{Options}
-use Rattle.ms_c.specs.declared.runs.Run.{Run}
+use Rattle.ms_member.specs.declared.runs.Run.{Run}
 use Rattle.ms_c.specs.Answers.{numbers, bad_kind, no_seat, not_held, told_by}
 use Rattle.ms_c.specs.Kinds.{kind_number}
 use Rattle.ms_c.specs.Sums.{loader_told}
 use Rattle.ms_c.specs.Settings.{AreSettings, AreFit}
 use Rattle.ms_c.specs.Seating.{Seated}
-use Rattle.ms_c.specs.Member.{MemberState, IsFirst, Splits, AnswersNew, TellsPool, Purges}
-use Rattle.ms_c.specs.Member.{FindsRun}
-use Rattle.ms_c.specs.Hosted.{IsOwed}
-use Rattle.ms_c.specs.Taking.{AnswersNewArenas, AreTheirSums, KnowsNoBlocks}
+use Rattle.ms_member.specs.Member.{MemberState, IsFirst, Splits, AnswersNew, TellsPool, Purges}
+use Rattle.ms_member.specs.Member.{FindsRun}
+use Rattle.ms_member.specs.Hosted.{IsOwed}
+use Rattle.ms_member.specs.Taking.{AnswersNewArenas, AreTheirSums, KnowsNoBlocks}
 
 -- The member is answered so.
 pub record Called (is : MemberState → Option Reply → MemberState → Type 0) (before : MemberState) (answer : Answer)

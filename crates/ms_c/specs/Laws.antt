@@ -1,9 +1,10 @@
 -- What the runs of uncommitted granules are together, and of which set they are.
 use Rattle.std.specs.Prelude.{◌≡◌, ℕ, ◌+◌, ◌<◌, ◌≤◌, Bool, false, not, ◌&&◌, ◌||◌, List, [], ◌∷◌, nat_le, nat_lt, Some}
 use Rattle.ms_base.specs.State.{Machine}
-use Rattle.ms_c.specs.declared.runs.Run.{Run}
+use Rattle.ms_member.specs.declared.runs.Run.{Run}
 use Rattle.ms_c.specs.Sums.{AreBits}
-use Rattle.ms_c.specs.Uncommitted.{is_uncommitted, commits_of, IsNextRun, LacksFrom}
+use Rattle.ms_member.specs.Uncommitted.{is_uncommitted, IsNextRun, LacksFrom}
+use Rattle.ms_c.specs.Runs.{commits_of}
 
 -- Runs that are asked for one after another, each from the end of the one before, until there is none.
 abbrev pub AreAsked : (ℕ → Bool) → ℕ → List Run → Type 0

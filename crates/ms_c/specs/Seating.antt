@@ -7,7 +7,7 @@ use Rattle.std.specs.Coded.{coded_option}
 use Rattle.std.specs.Global.{Global}
 use Rattle.std_alloc.specs.Box.Ownership.{box_owns}
 use Rattle.std_heap.specs.contracts.GlobalAllocator.TheImpl.{ghosts}
-use Rattle.ms_c.specs.contracts.member.Member.{the_row}
+use Rattle.ms_member.specs.contracts.member.Member.{the_row}
 
 abbrev pub Seated : Type 0
 Seated = Option the_row.Denot

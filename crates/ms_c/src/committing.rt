@@ -8,8 +8,8 @@ ghost use Rattle.ms_c.specs.Runs.{TellsCommitted};
 
 use crate::answer::{Answer, DONE, answer_of};
 use crate::holding::Handle;
-use crate::runs::{Run, run_of};
 use ms_base::{Reply, Space};
+use ms_member::{Run, run_of};
 use std::alloc::Global;
 
 /// Allocates a block as `nizgrabul_alloc` does, and writes to `out` the run of granules that it

@@ -1,4 +1,4 @@
-//! The machine for C: a system behind a handle, a seat of a shared pool behind another, and an
+//! The machine for C: a system behind a handle, a member of a shared pool behind a seat, and an
 //! export for each call.
 //!
 //!     handle ── System                      one thread at a time
@@ -12,21 +12,18 @@
 //! they start, or is bare and knows none. One export has a `requires`, where a bare loader's block is
 //! freed: to all others any numbers are allowed, and an empty handle or seat is a status. What a C
 //! program owes besides is listed in the header. Apart because a static library can
-//! be no other crate's. Stands on `ms_loaders` and `ms_shared`. Nothing waits, and what takes memory
+//! be no other crate's. Stands on `ms_loaders` and `ms_member`. Nothing waits, and what takes memory
 //! says so.
 #![tactic(auto)]
 
 mod answer;
 mod committing;
-mod granules;
 mod holding;
 mod kinds;
 mod laws;
 mod making;
-mod member;
 mod options;
 mod parts;
-mod runs;
 mod seat_arenas;
 mod seat_slot;
 mod seat_steps;

@@ -2,7 +2,7 @@
 //!
 //! What C owes of a block that it gives back to a bare loader is the one `requires` of an export.
 ghost use Rattle.std.specs.Prelude.{◌≡◌, true, false};
-ghost use Rattle.ms_c.specs.Taking.{AnswersNewArenas, AnswersTake, AnswersGive, AnswersGiveBare};
+ghost use Rattle.ms_member.specs.Taking.{AnswersNewArenas, AnswersTake, AnswersGive, AnswersGiveBare};
 ghost use Rattle.ms_arena.specs.Arena.{block_at};
 ghost use Rattle.ms_c.specs.Calls.{Calls, MakesArenasAt, IsOwedBy, space_of};
 

@@ -2,9 +2,9 @@
 ghost use Rattle.std.specs.Prelude.{◌≡◌, Some, None, IsSome};
 ghost use Rattle.ms_c.specs.Seating.{Seated, seated_by, seated_coded};
 
-use crate::member::Member;
 use crate::parts::Parts;
 use crate::slot::Opaque;
+use ms_member::Member;
 use std::alloc::Global;
 use std::marker::Model;
 use std::ptr;

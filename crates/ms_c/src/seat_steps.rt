@@ -1,8 +1,8 @@
 //! The exports by which a seat's loader comes, allocates, frees and goes.
 ghost use Rattle.std.specs.Prelude.{◌≡◌, IfSome, IfNone};
 ghost use Rattle.ms_base.specs.declared.kind.Space.TheVariants.{NonClass, Class};
-ghost use Rattle.ms_c.specs.Member.{AnswersNew, AnswersAlloc, AnswersFree};
-ghost use Rattle.ms_c.specs.Taking.{AnswersUnloadAny};
+ghost use Rattle.ms_member.specs.Member.{AnswersNew, AnswersAlloc, AnswersFree};
+ghost use Rattle.ms_member.specs.Taking.{AnswersUnloadAny};
 ghost use Rattle.ms_c.specs.Answers.{numbers, not_held};
 ghost use Rattle.ms_c.specs.Calls.{Calls, MakesLoaderAt, PurgesPool};
 

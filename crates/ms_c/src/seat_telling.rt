@@ -1,6 +1,6 @@
 //! The exports that return what a seat and its loader have, and change nothing.
 ghost use Rattle.std.specs.Prelude.{◌≡◌, ◌≢◌, ◌↔◌, ◌⊎◌, None, IfSome, length};
-ghost use Rattle.ms_c.specs.Taking.{used_of_them};
+ghost use Rattle.ms_member.specs.Taking.{used_of_them};
 ghost use Rattle.ms_c.specs.Calls.{TellsGranules, IsAlone, TellsIts, HasNone};
 
 use crate::answer::{DONE, NO_LOADER, NO_SEAT, NOT_HELD};

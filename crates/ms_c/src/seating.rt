@@ -4,9 +4,9 @@
 //! memory.
 ghost use Rattle.std.specs.Prelude.{◌≡◌, ◌↔◌, Some, None, IsSome, IsTrue, IfSome, IsNone};
 
-use crate::member::Member;
 use crate::parts::Parts;
 use crate::seat_slot::SeatSlot;
+use ms_member::Member;
 use std::alloc::Global;
 use std::mem;
 

@@ -1,13 +1,13 @@
 //! The exports that make a shared pool, split seats off and end them, and those that take the pool
 //! for a seat and give it back.
 ghost use Rattle.std.specs.Prelude.{◌≡◌, ◌≢◌, ◌↔◌, ◌⊎◌, None, IsSome};
-ghost use Rattle.ms_c.specs.Member.{Holds, LetsGo, LacksPool};
+ghost use Rattle.ms_member.specs.Member.{Holds, LetsGo, LacksPool};
 ghost use Rattle.ms_c.specs.Calls.{IsShared, CannotShare, SplitsOff, HasNoSpare, Becomes};
 
 use crate::answer::{BAD_SETTINGS, BUSY, DONE, IN_USE, NO_SEAT, NO_SPARE, NOT_HELD, OUT_OF_MEMORY};
-use crate::member::Member;
 use crate::options::{Options, settings_of};
 use crate::seating::Seat;
+use ms_member::Member;
 use std::alloc::Global;
 
 /// How many seats a pool has at most.

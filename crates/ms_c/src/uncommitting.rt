@@ -4,15 +4,15 @@
 //! A program has a flag for each granule, or takes them by `nizgrabul_granules` before it unloads or
 //! purges. The library finds each run of those that went.
 ghost use Rattle.std.specs.Prelude.{◌≡◌, ◌≢◌, ◌↔◌, ◌⊎◌, None};
-ghost use Rattle.ms_c.specs.Uncommitted.{is_uncommitted, IsNext, commits_of};
+ghost use Rattle.ms_c.specs.Runs.{commits_of};
+ghost use Rattle.ms_member.specs.Uncommitted.{is_uncommitted, IsNext};
 ghost use Rattle.ms_c.specs.Calls.{FindsWent, IsAlone};
 
 use crate::answer::{DONE, NO_SEAT, NOT_HELD};
-use crate::granules::{NoGranules, next_run};
 use crate::holding::Handle;
-use crate::runs::Run;
 use crate::seating::Seat;
 use ms_loaders::System;
+use ms_member::{NoGranules, Run, next_run};
 use std::alloc::Global;
 
 /// Returns the first run of granules, from the granule `from` on, that were committed and are no

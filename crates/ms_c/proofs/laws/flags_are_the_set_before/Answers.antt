@@ -1,7 +1,7 @@
 use Rattle.std.proofs.Common.{◌≡◌, ℕ, ◌+◌, ◌&&◌, not, ◌++◌, nat_lt, Some, ap, ◌∙◌, arith}
 use Rattle.ms_base.specs.Committed.{is_among}
 use Rattle.ms_c.specs.Sums.{bit_at}
-use Rattle.ms_c.specs.Uncommitted.{commits_of}
+use Rattle.ms_c.specs.Runs.{commits_of}
 use Rattle.ms_c.proofs.RunLemmas.{went_of}
 use Rattle.ms_c.proofs.laws.flags_are_the_set_before.Goals as goal
 

@@ -1,5 +1,5 @@
 use Rattle.std.proofs.Common.{arith}
-use Rattle.ms_c.specs.Uncommitted.{is_uncommitted}
+use Rattle.ms_member.specs.Uncommitted.{is_uncommitted}
 use Rattle.ms_c.proofs.RunLemmas.{are_apart, have_what_went}
 use Rattle.ms_c.proofs.laws.runs_are_the_difference.Goals as goal
 

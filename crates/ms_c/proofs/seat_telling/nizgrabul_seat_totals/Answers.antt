@@ -1,6 +1,6 @@
 use Rattle.std.proofs.Common.{subst}
-use Rattle.ms_c.specs.Member.{MemberState}
-use Rattle.ms_c.specs.Taking.{AreTheirSums}
+use Rattle.ms_member.specs.Member.{MemberState}
+use Rattle.ms_member.specs.Taking.{AreTheirSums}
 use Rattle.ms_c.proofs.seat_telling.nizgrabul_seat_totals.Goals as goal
 
 -- what was found is told as it is

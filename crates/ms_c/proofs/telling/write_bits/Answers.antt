@@ -1,7 +1,7 @@
 use Rattle.std.proofs.Common.{length, ap, ◌∙◌, ℕ, false, arith}
 use Rattle.std.proofs.lemmas.List.FromFn.{fill_by_all}
 use Rattle.ms_c.specs.Sums.{bit_at}
-use Rattle.ms_c.proofs.BitLemmas.{one_more}
+use Rattle.ms_member.proofs.BitLemmas.{one_more}
 use Rattle.ms_c.proofs.telling.write_bits.Goals as goal
 
 -- all elements are written

@@ -30,9 +30,9 @@ use Rattle.ms_loader.specs.contracts.loader.Loader as loader
 use Rattle.ms_shared.specs.contracts.seat.PoolSeat as seat
 use Rattle.ms_shared.specs.contracts.held_pool.HeldSeat as held
 use Rattle.ms_shared.specs.contracts.shared_pool.SharedPool as shared
-use Rattle.ms_c.specs.contracts.member.Member as member
-use Rattle.ms_c.specs.contracts.member.bare.BareArena as bare
-use Rattle.ms_c.specs.contracts.member.hosted.Hosted as hosted
+use Rattle.ms_member.specs.contracts.member.Member as member
+use Rattle.ms_member.specs.contracts.member.bare.BareArena as bare
+use Rattle.ms_member.specs.contracts.member.hosted.Hosted as hosted
 use Rattle.ms_arena.specs.contracts.arena.Arena as arena
 use Rattle.ms_c.specs.Seating.{Seated, seated_by}
 use Rattle.ms_c.specs.contracts.seat_slot.SeatSlot.{the_row, the_type}
