@@ -33,7 +33,7 @@ PLACEMENTS = {
 ALLOWED = frozenset(" ".join(PLACEMENTS.values()).split())
 # The files in which a block is placed: only their comments and variables speak of its place.
 PLACERS = re.compile(
-    r"crates/(ms_base/(specs/(Place|Asks|Lib)|proofs/examples/Arena)|ms_c/(specs|proofs|must-fail|src/member)\b|ms_loaders?/proofs/"
+    r"crates/(ms_base/(specs/(Place|Asks|Lib)|proofs/examples/Arena)|ms_member/(specs|proofs|must-fail|src/member)\b|ms_loaders?/proofs/"
     r"|ms_arena/((src|specs)/(lib|arena|raw|books|Arena|Alloc|Books)\.|proofs/(BookLemmas|(arena|raw|books)/)|must-fail/)"
     r"|ms_run/proofs/|library_tests/src/tests/arenas|calls/src/)")
 FUNCTION = re.compile(r"\s*(pub(\(\w+\))? )?(const )?(unsafe )?(extern \"C\" )?fn \w")
