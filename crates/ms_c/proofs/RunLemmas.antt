@@ -7,7 +7,7 @@ use Rattle.std.proofs.lemmas.Bool.{cases_lt, cases_eq}
 use Rattle.std.proofs.lemmas.Bool.Decides.{nat_tests}
 use Rattle.std.proofs.lemmas.List.{get_or_past}
 use Rattle.std.proofs.lemmas.List.FromFn.{get_or-map-range_with_len, length-map-range_with_len}
-use Rattle.ms_member.specs.declared.runs.Run.{Run}
+use Rattle.ms_loaders.specs.declared.system.committing.GranuleRun.{GranuleRun}
 use Rattle.ms_member.specs.Uncommitted.{is_uncommitted}
 use Rattle.ms_c.specs.Laws.{AreAsked, AreApart, is_of_one}
 
@@ -26,7 +26,7 @@ past_it first count number past = grind (arith, nat_tests)
 
 module _ (went : ℕ → Bool) where
   -- Past a granule that didn't go the runs don't touch it.
-  apart_past : (runs : List Run) (from : ℕ) → went from ≡ false → AreAsked went from runs → AreApart (from + 1) runs
+  apart_past : (runs : List GranuleRun) (from : ℕ) → went from ≡ false → AreAsked went from runs → AreApart (from + 1) runs
   apart_past [] from stays its = tt
   apart_past (run ∷ runs) from stays its = (
     elim (cases_eq from run.first) [
@@ -37,7 +37,7 @@ module _ (went : ℕ → Bool) where
     apart_past runs (run.first + run.granules) its.0.ends its.1,
   )
 
-  pub are_apart : (runs : List Run) (from : ℕ) → AreAsked went from runs → AreApart from runs
+  pub are_apart : (runs : List GranuleRun) (from : ℕ) → AreAsked went from runs → AreApart from runs
   are_apart [] from its = tt
   are_apart (run ∷ runs) from its = (
     its.0.begins.after,
@@ -46,7 +46,7 @@ module _ (went : ℕ → Bool) where
   )
 
   -- No run has a granule below the number that they are asked from.
-  none_below : (runs : List Run) (from : ℕ) → AreAsked went from runs → (granule : ℕ) → granule < from
+  none_below : (runs : List GranuleRun) (from : ℕ) → AreAsked went from runs → (granule : ℕ) → granule < from
       → is_of_one runs granule ≡ false
   none_below [] from its granule less = refl
   none_below (run ∷ runs) from its granule less =
@@ -55,7 +55,7 @@ module _ (went : ℕ → Bool) where
       ∙ none_below runs (run.first + run.granules) its.1 granule (omega (arith, its.0.begins.after, less))
 
   -- From there on they have just what went.
-  pub have_what_went : (runs : List Run) (from : ℕ) → AreAsked went from runs → (granule : ℕ) → from ≤ granule
+  pub have_what_went : (runs : List GranuleRun) (from : ℕ) → AreAsked went from runs → (granule : ℕ) → from ≤ granule
       → is_of_one runs granule ≡ went granule
   have_what_went [] from its granule past = sym (its granule past)
   have_what_went (run ∷ runs) from its granule past = elim (cases_lt granule run.first) [

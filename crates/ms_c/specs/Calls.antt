@@ -12,7 +12,7 @@ use Rattle.ms_loaders.specs.declared.system.sums.LoaderTotals.{LoaderTotals}
 use Rattle.ms_c.specs.declared.answer.Answer.{Answer}
 use Rattle.ms_c.specs.declared.totals.LoaderSums.{LoaderSums}
 use Rattle.ms_c.specs.declared.options.Options.{Options}
-use Rattle.ms_member.specs.declared.runs.Run.{Run}
+use Rattle.ms_loaders.specs.declared.system.committing.GranuleRun.{GranuleRun}
 use Rattle.ms_c.specs.Answers.{numbers, bad_kind, no_seat, not_held, told_by}
 use Rattle.ms_c.specs.Kinds.{kind_number}
 use Rattle.ms_c.specs.Sums.{loader_told}
@@ -117,7 +117,7 @@ pub record TellsGranules (seat : Seated) (first count : ℕ) (bits : List Bool) 
   pub told : TellsPool member first count bits
 
 -- The next run of the granules that went, in the pool that the seat has.
-pub record FindsWent (seat : Seated) (was : List Bool) (from : ℕ) (run : Run) : Type 0 where
+pub record FindsWent (seat : Seated) (was : List Bool) (from : ℕ) (run : GranuleRun) : Type 0 where
   pub member : MemberState
   pub is : seat ≡ Some member
   pub found : FindsRun member was from run

@@ -2,8 +2,7 @@
 use Rattle.std.specs.Prelude.{ℕ, Bool, Some, None}
 use Rattle.ms_base.specs.declared.kind.Space.{Space}
 use Rattle.ms_loaders.specs.Committing.{TellsRun}
-use Rattle.ms_member.specs.declared.runs.Run.{Run}
-use Rattle.ms_member.specs.Runs.{run_in}
+use Rattle.ms_loaders.specs.declared.system.committing.GranuleRun.{GranuleRun}
 use Rattle.ms_member.specs.Uncommitted.{commits_in, commits_none}
 use Rattle.ms_c.specs.Holding.{Held}
 
@@ -13,6 +12,6 @@ commits_of None = commits_none
 commits_of (Some m) = commits_in m.committed m.class_committed
 
 -- The run is that of the granules which became committed in a space of the handle's system.
-abbrev pub TellsCommitted : Space → Held → Run → Held → Type 0
-TellsCommitted space (Some before) run (Some after) = TellsRun space before (run_in run) after
+abbrev pub TellsCommitted : Space → Held → GranuleRun → Held → Type 0
+TellsCommitted space (Some before) run (Some after) = TellsRun space before run after
 TellsCommitted space _ run _ = ⊥

@@ -9,7 +9,7 @@ ghost use Rattle.ms_c.specs.Runs.{TellsCommitted};
 use crate::answer::{Answer, DONE, answer_of};
 use crate::holding::Handle;
 use ms_base::{Reply, Space};
-use ms_member::{Run, run_of};
+use ms_loaders::GranuleRun;
 use std::alloc::Global;
 
 /// Allocates a block as `nizgrabul_alloc` does, and writes to `out` the run of granules that it
@@ -23,7 +23,7 @@ pub extern "C" fn nizgrabul_alloc_with_run(
     loader: u16,
     block: u32,
     words: u64,
-    out: &mut Run,
+    out: &mut GranuleRun,
 ) -> Answer
     ensures step { Steps handle.old.slot.held
         (Alloc loader block words) result handle.new.slot.held }
@@ -43,7 +43,7 @@ pub extern "C" fn nizgrabul_calloc_with_run(
     loader: u16,
     block: u32,
     words: u64,
-    out: &mut Run,
+    out: &mut GranuleRun,
 ) -> Answer
     ensures step { Steps handle.old.slot.held
         (Calloc loader block words) result handle.new.slot.held }
@@ -62,7 +62,7 @@ fn allocate(
     loader: u16,
     block: u32,
     words: u64,
-    out: &mut Run,
+    out: &mut GranuleRun,
 ) -> Answer
     ensures step { Steps handle.old.slot.held
         (alloc_in space loader block words) result handle.new.slot.held }
@@ -77,7 +77,7 @@ fn allocate(
     handle.put(system);
     match answer {
         Ok(made) => {
-            *out = run_of(made.run);
+            *out = made.run;
             Answer::of(made.start)
         }
         Err(refusal) => answer_of(Reply::Refused(refusal)),

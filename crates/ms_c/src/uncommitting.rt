@@ -11,8 +11,8 @@ ghost use Rattle.ms_c.specs.Calls.{FindsWent, IsAlone};
 use crate::answer::{DONE, NO_SEAT, NOT_HELD};
 use crate::holding::Handle;
 use crate::seating::Seat;
-use ms_loaders::System;
-use ms_member::{NoGranules, Run, next_run};
+use ms_loaders::{GranuleRun, System};
+use ms_member::{NoGranules, next_run};
 use std::alloc::Global;
 
 /// Returns the first run of granules, from the granule `from` on, that were committed and are no
@@ -27,7 +27,7 @@ pub extern "C" fn nizgrabul_next_uncommitted(
     handle: &mut Handle,
     was: &[bool],
     from: u64,
-) -> Run
+) -> GranuleRun
     ensures run { IsNext (is_uncommitted was.now (commits_of handle.old.slot.held)) from result }
     ensures unchanged { handle.new.slot.held ≡ handle.old.slot.held }
 {
@@ -43,7 +43,7 @@ pub extern "C" fn nizgrabul_next_uncommitted(
 
 /// Returns the first run of granules, from one on, that were committed by their flags and are no
 /// more in a system.
-fn next_run_of(system: &System, was: &[bool], from: u64) -> Run
+fn next_run_of(system: &System, was: &[bool], from: u64) -> GranuleRun
     ensures { IsNext (is_uncommitted was.now (commits_of (Some system.now))) from result }
 {
     next_run(system, was, from)
@@ -59,7 +59,7 @@ pub extern "C" fn nizgrabul_seat_next_uncommitted(
     seat: &mut Seat,
     was: &[bool],
     from: u64,
-    out: &mut Run,
+    out: &mut GranuleRun,
 ) -> u32
     ensures run { result ≡ DONE → FindsWent seat.old.slot.held was.now from out.new }
     ensures not_held { result ≡ NOT_HELD → IsAlone seat.old.slot.held }

@@ -2,6 +2,5 @@ pub mod Arenas
 pub mod Bare
 pub mod Hosted
 pub mod Member
-pub mod Runs
 pub mod Taking
 pub mod Uncommitted

@@ -28,7 +28,7 @@ use Rattle.ms_loaders.specs.declared.system.sums.LoaderTotals.{LoaderTotals}
 use Rattle.ms_shared.specs.declared.lock_rule.SeatView.{SeatView}
 use Rattle.ms_shared.specs.SeatView.{LockState, SeatState, HeldState, ServesBy, opened_by, new_seats}
 use Rattle.ms_member.specs.declared.member.hosted.Hosted.{Hosted}
-use Rattle.ms_member.specs.declared.runs.Run.{Run}
+use Rattle.ms_loaders.specs.declared.system.committing.GranuleRun.{GranuleRun}
 use Rattle.ms_member.specs.Arenas.{ServesArenas}
 use Rattle.ms_member.specs.Hosted.{shown}
 use Rattle.ms_member.specs.Uncommitted.{is_uncommitted, commits_in, IsNext}
@@ -278,7 +278,7 @@ pub record TellsPool (member : MemberState) (first count : ℕ) (bits : List Boo
 
 -- The next run, from a granule on, of those that were committed by their flags and are no more in
 -- the pool that the seat has.
-pub record FindsRun (member : MemberState) (was : List Bool) (from : ℕ) (run : Run) : Type 0 where
+pub record FindsRun (member : MemberState) (was : List Bool) (from : ℕ) (run : GranuleRun) : Type 0 where
   pub held : HeldState
   pub has : member.held ≡ Some held
   pub next : IsNext (is_uncommitted was (commits_in held.pool.committed held.pool.class_committed)) from run

@@ -1,7 +1,7 @@
 -- Granules that were committed and are no more, and their runs.
 use Rattle.std.specs.Prelude.{◌≡◌, ℕ, ◌+◌, ◌<◌, ◌≤◌, ◌⊎◌, Bool, true, false, not, ◌&&◌, List, ◌++◌, get_or}
 use Rattle.ms_base.specs.Committed.{is_among}
-use Rattle.ms_member.specs.declared.runs.Run.{Run}
+use Rattle.ms_loaders.specs.declared.system.committing.GranuleRun.{GranuleRun}
 
 -- Which granules are committed by both spaces' sets; and by none.
 abbrev pub commits_in : List ℕ → List ℕ → ℕ → Bool
@@ -24,7 +24,7 @@ abbrev pub LacksFrom : (ℕ → Bool) → ℕ → Type 0
 LacksFrom went from = (granule : ℕ) → from ≤ granule → went granule ≡ false
 
 -- The run begins with the first of them, each of its granules is one, and the one at its end isn't.
-pub record IsNextRun (went : ℕ → Bool) (from : ℕ) (run : Run) : Type 0 where
+pub record IsNextRun (went : ℕ → Bool) (from : ℕ) (run : GranuleRun) : Type 0 where
   pub begins : IsFirst went from run.first
   pub some : 0 < run.granules
   pub each : (granule : ℕ) → run.first ≤ granule → granule < run.first + run.granules → went granule ≡ true
@@ -32,10 +32,10 @@ pub record IsNextRun (went : ℕ → Bool) (from : ℕ) (run : Run) : Type 0 whe
   pub none_came : run.came ≡ 0
 
 -- There is none, and the run has no granules.
-pub record HasNoRun (went : ℕ → Bool) (from : ℕ) (run : Run) : Type 0 where
+pub record HasNoRun (went : ℕ → Bool) (from : ℕ) (run : GranuleRun) : Type 0 where
   pub none : LacksFrom went from
   pub run_is : run ≡ record { first = from; granules = 0; came = 0 }
 
 -- The next run from a number on, where there is one.
-abbrev pub IsNext : (ℕ → Bool) → ℕ → Run → Type 0
+abbrev pub IsNext : (ℕ → Bool) → ℕ → GranuleRun → Type 0
 IsNext went from run = IsNextRun went from run ⊎ HasNoRun went from run

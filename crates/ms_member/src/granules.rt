@@ -10,8 +10,7 @@
 ghost use Rattle.std.specs.Prelude.{◌≡◌, ◌<◌, ◌≤◌, ℕ, Bool, true, false, IfSome, IfNone, length};
 ghost use Rattle.ms_member.specs.Uncommitted.{is_uncommitted, IsFirst, IsNext, LacksFrom};
 
-use crate::runs::Run;
-use ms_loaders::System;
+use ms_loaders::{GranuleRun, System};
 use ms_shared::HeldSeat;
 
 /// What has committed granules.
@@ -60,19 +59,19 @@ impl Granules for NoGranules {
 
 /// Returns the first run, from a granule on, of those that were committed by their flags and are no
 /// more; one of no granules where there is none. Takes no memory.
-pub fn next_run<G: Granules>(granules: &G, was: &[bool], from: u64) -> Run
+pub fn next_run<G: Granules>(granules: &G, was: &[bool], from: u64) -> GranuleRun
     ensures { IsNext (is_uncommitted was.now (G.commits granules.now)) from result }
 {
     match first_from(granules, was, from as usize) {
         Some(first) => {
             let end = end_of_run(granules, was, first);
-            Run {
+            GranuleRun {
                 first: first as u64,
                 granules: (end - first) as u64,
                 came: 0,
             }
         }
-        None => Run {
+        None => GranuleRun {
             first: from,
             granules: 0,
             came: 0,

@@ -12,8 +12,6 @@
 
 mod granules;
 mod member;
-mod runs;
 
 pub use granules::{Granules, NoGranules, next_run};
 pub use member::Member;
-pub use runs::{Run, run_of};

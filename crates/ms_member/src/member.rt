@@ -22,10 +22,9 @@ mod sharing;
 mod taking;
 
 use crate::granules::next_run;
-use crate::runs::Run;
 use hosted::{Hosted, hosted_totals, words_used};
 use ms_loader::Loader;
-use ms_loaders::LoaderTotals;
+use ms_loaders::{GranuleRun, LoaderTotals};
 use ms_shared::{HeldSeat, PoolSeat, SharedPool};
 use std::alloc::Global;
 use std::marker::Model;
@@ -207,7 +206,7 @@ impl Member {
 
     /// Returns the first run, from a granule on, of those that were committed by their flags and are
     /// no more in the pool, where the seat has that. Takes no memory.
-    pub fn next_uncommitted(&self, was: &[bool], from: u64) -> Option<Run>
+    pub fn next_uncommitted(&self, was: &[bool], from: u64) -> Option<GranuleRun>
         ensures found { IfSome result (FindsRun self.now was.now from) }
         ensures lacks { IfNone result (self.now.held ≡ None) }
     {

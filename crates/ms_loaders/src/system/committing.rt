@@ -16,7 +16,9 @@ use ms_loader::Loader;
 use ms_loader_map::Loaders;
 use ms_pool::Account;
 
-/// A run of granules, by their numbers over both spaces; none where nothing became committed.
+/// A run of granules, by their numbers over both spaces; one of no granules where there is none. Its
+/// layout is C's: three numbers of 64 bits, in this order.
+#[repr(C)]
 #[derive(Clone, Copy, Debug)]
 pub struct GranuleRun {
     /// The number of the first one.
