@@ -43,7 +43,7 @@ impl Granules for HeldSeat {
     }
 }
 
-/// No granule at all: what a handle without a system has committed.
+/// No granule at all: what is committed where there is no pool.
 #[derive(Drop)]
 pub struct NoGranules;
 

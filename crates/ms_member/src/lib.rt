@@ -5,9 +5,8 @@
 //!         └──── a loader that names its blocks, or arenas that know them, or bare ones that don't
 //!
 //! Kept true: a member's seat serves its loader, so loader and seat go together from thread to thread;
-//! a call that needs the pool is made while the seat has it. Apart from `ms_c`, which has an export
-//! for each call, as the rules are no matter of C. Stands on `ms_loader` and `ms_shared`. Takes
-//! memory where it says so; nothing waits.
+//! a call that needs the pool is made while the seat has it. Stands on `ms_loader` and `ms_shared`.
+//! Takes memory where it says so; nothing waits.
 #![tactic(auto)]
 
 mod granules;

@@ -1,12 +1,11 @@
-//! A seat of a shared pool, and the class loader that it serves: what one C handle of a shared pool
-//! has.
+//! A seat of a shared pool, and the class loader that it serves: what a thread owns that runs one.
 //!
 //!     hold ──> seat and pool ──> calls that need the pool ──> let_go ──> seat alone
 //!
 //! Kept true: there is one seat, of the pool's lock, with the pool or without; it serves both
-//! accounts of the loader, where there is one, with names for its blocks or without; seats to spare are of the same lock. So a loader is
-//! where its seat is, and goes with it from thread to thread. Nothing here waits: `hold` tries
-//! once. `share` and `split` take memory, and an allocation does.
+//! accounts of the loader, where there is one, with names for its blocks or without; seats to spare
+//! are of the same lock. So a loader is where its seat is, and goes with it from thread to thread.
+//! Nothing here waits: `hold` tries once. `share` and `split` take memory, and an allocation does.
 ghost use Rattle.std.specs.Prelude.{◌≡◌, IsTrue, IsFalse, IfSome, IfNone, None, length, map};
 ghost use Rattle.std.specs.List.{All, range_with_len};
 ghost use Rattle.std.specs.Arc.{arc_value};
