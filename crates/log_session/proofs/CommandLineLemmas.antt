@@ -1,23 +1,22 @@
 -- The command line is one of which `clap` says what it finds and what it refuses; and what it finds where
 -- there is no option. Used by `options_of`.
-use Rattle.std.proofs.Common.{◌≡◌, ◌≤◌, ◌⊎◌, List, [], ◌∷◌, None, true, refl, sym, ap, ◌∙◌, arith, inl, inr}
+use Rattle.std.proofs.Common.{◌≡◌, ◌≤◌, List, [], ◌∷◌, None, true, refl, sym, ap, ◌∙◌, arith}
 use Rattle.std.proofs.Common.{codes, length, subst}
 use Rattle.std.specs.Prelude.{map, option_map}
 use Rattle.std.specs.Borrow.{Bor}
 use Rattle.std.proofs.lemmas.Option.{none-some}
-use Rattle.clap.specs.Words.{App, Row, Text, IsAmong, fault_of, first_of, is_simple, is_simple_and_free, matches_of}
+use Rattle.clap.specs.Words.{App, Row, Text, first_of, is_simple, is_simple_and_free, matches_of}
 use Rattle.clap.specs.Words.{one_of}
-use Rattle.clap.specs.declared.error.kind.ErrorKind.{ErrorKind}
-use Rattle.clap.specs.declared.error.kind.ErrorKind.TheVariants.{DisplayHelp, DisplayVersion, OutOfMemory}
 use Rattle.log_session.proofs.OptionLemmas.{reports_unasked}
 use Rattle.clap.proofs.OnLiterals.{clap_on_literals}
 use Rattle.log_session.specs.declared.options.Options.{Options}
 use Rattle.log_session.specs.Asked.{AreAsked, AreRead, IsDefault}
-use Rattle.log_session.specs.CommandLine.{AskToBeTold, Choices, IsCommandLine, IsShown, report_rule, line_with}
+use Rattle.command_line.specs.Rules.{Choices, choice_rule}
+use Rattle.log_session.specs.CommandLine.{IsCommandLine, line_with}
 
 -- The command line with the words of its choices.
 abbrev line_of : Choices → App
-line_of reports = line_with (report_rule reports)
+line_of reports = line_with (choice_rule (codes "reports") reports)
 
 line_is_simple : (reports : Choices) → is_simple (line_of reports) ≡ true
 unfolding clap_on_literals
@@ -36,16 +35,6 @@ is_matched app line = ap is_simple (is_line app line) ∙ line_is_simple line.re
 
 pub is_judged : (app : App) → IsCommandLine app → is_simple_and_free app ≡ true
 is_judged app line = ap is_simple_and_free (is_line app line) ∙ line_is_free line.reports_are.choices
-
--- A kind that is for standard output is no want of memory, so it is the first fault.
-pub first_is_shown : (words : List Text) (app : App) (kind : ErrorKind) → IsCommandLine app → IsShown kind
-    → (kind ≡ OutOfMemory) ⊎ IsAmong kind (fault_of app words) → AskToBeTold words
-first_is_shown words app kind line (inl help) (inl memory) =
-    let both : DisplayHelp ≡ OutOfMemory = sym help ∙ memory in absurd (cc)
-first_is_shown words app kind line (inr version) (inl memory) =
-    let both : DisplayVersion ≡ OutOfMemory = sym version ∙ memory in absurd (cc)
-first_is_shown words app kind line shown (inr first) =
-    record { app = app; line = line; kind = kind; shown = shown; first = first }
 
 -- What is found without an option: nothing.
 found_nowhere : {X : Type 0} (reports : Choices) (text : X → Text) (words : List X) → length words ≤ 1
@@ -71,7 +60,7 @@ default_is_asked text words options few default =
     record {
       app = line_of reports;
       line = record {
-        reports = report_rule reports;
+        reports = choice_rule (codes "reports") reports;
         reports_are = record { choices = reports; told = refl; is = refl };
         is = refl;
       };

@@ -1,24 +1,11 @@
--- What the number of an option is by its text, and where reports stand by their word. Used by `merge_in`
--- and `reports_in` of `options`.
-use Rattle.std.proofs.Common.{◌≡◌, ◌<◌, ◌^◌, ℕ, List, Option, Some, None, Result, Ok, Err, ap, sym, ◌∙◌}
+-- Where reports stand by their word. Used by `reports_in` of `options`.
+use Rattle.std.proofs.Common.{◌≡◌, ℕ, List, Some, None, sym, ◌∙◌}
 use Rattle.std.specs.Prelude.{codes}
-use Rattle.std.specs.Str.Parse.{IsNumeral, ParsesUnsigned, without_leading_plus}
 use Rattle.std.proofs.lemmas.Option.{none-some, same_Some}
-use Rattle.clap.specs.Matches.{ReadsOne}
 use Rattle.clap.specs.Words.{Row, first_of}
 use Rattle.log_session.specs.declared.options.Reports.{Reports}
 use Rattle.log_session.specs.declared.options.Reports.TheVariants as reports
-use Rattle.log_session.specs.Asked.{ReadsReports, number_of}
-
--- A numeral, after a plus or without one, is read as the number that it writes.
-pub numeral_is_read : (E : Type 0) (gives : List ℕ → Result ℕ E → Type 0) (text : List ℕ) (read : Option ℕ)
-    → IsNumeral 10 (without_leading_plus text) → number_of text < 2 ^ 64
-    → ((parsed : Result ℕ E) → gives text parsed → ParsesUnsigned 64 10 text parsed)
-    → ReadsOne gives text read → read ≡ Some (number_of text)
-numeral_is_read E gives text (Some value) digits small parses reads =
-    ap (λ (n : ℕ). Some n) (parses (Ok value) reads).1
-numeral_is_read E gives text None digits small parses reads =
-    absurd (parses (Err reads.0) reads.1 (digits, small))
+use Rattle.log_session.specs.Asked.{ReadsReports}
 
 -- Where no reports are asked for, one stands at the end.
 pub reports_unasked : (rows : List Row) (chosen : Reports) → first_of (codes "reports") rows ≡ None

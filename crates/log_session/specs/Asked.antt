@@ -1,11 +1,9 @@
 -- What a command line may ask for (this project's choice).
-use Rattle.std.specs.Prelude.{◌≡◌, ℕ, List, Option, Some, None, codes, option_map, ⊤}
-use Rattle.std.specs.Str.Parse.{digits_value, without_leading_plus}
+use Rattle.std.specs.Prelude.{◌≡◌, ℕ, List, Option, Some, None, codes, option_map}
 use Rattle.clap.specs.Words.{App, IsUnsignedIn, Row, Text, first_of, matches_of, one_of}
+use Rattle.command_line.specs.Given.{number_of}
 use Rattle.log_session.specs.CommandLine.{IsCommandLine}
 use Rattle.log_session.specs.declared.options.Options.{Options}
-use Rattle.log_session.specs.declared.options.Refused.{Refused}
-use Rattle.log_session.specs.declared.options.Refused.TheVariants.{Told}
 use Rattle.log_session.specs.declared.options.Reports.{Reports}
 use Rattle.log_session.specs.declared.options.Reports.TheVariants as reports
 
@@ -14,10 +12,6 @@ pub record IsDefault (options : Options) : Type 0 where
   pub reports : options.reports ≡ reports.End
   pub merge : options.merge ≡ None
   pub names : options.names ≡ None
-
--- The number that a text writes in digits, after a plus or without one.
-abbrev pub number_of : Text → ℕ
-number_of text = digits_value 10 (without_leading_plus text)
 
 -- Reports stand where the given word says, at the end where none was given.
 pub record ReadsReports (rows : List Row) (chosen : Reports) : Type 0 where
@@ -43,8 +37,3 @@ pub record AreAsked (words : List Text) (options : Options) : Type 0 where
   pub app : App
   pub line : IsCommandLine app
   pub read : AreRead (matches_of app words) options
-
--- What `metalog` has for standard output in place of a trace.
-abbrev pub IsTold : Refused → Type 0
-IsTold (Told text) = ⊤
-IsTold _ = ⊥

@@ -21,6 +21,7 @@ mod output;
 mod starting;
 mod warnings;
 
+pub use command_line::Refused;
 pub use converting::session;
-pub use options::{Options, Refused, Reports, options_of};
+pub use options::{Options, Reports, options_of};
 pub use starting::start;

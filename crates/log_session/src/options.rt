@@ -5,14 +5,17 @@
 //! Kept true: what isn't asked for is the default. `clap` reads the words and writes the texts of
 //! refusals and of the help.
 ghost use Rattle.std.specs.Prelude.{◌≡◌, ◌≤◌, ◌∷◌, [], IfErr, IfOk, IsFalse, IsOkAnd, IsTrue, None, codes, false, length, map};
-ghost use Rattle.clap.specs.Words.{App, app_of, found_of, kind_of, rows_of, rule_of, with_rule};
-ghost use Rattle.log_session.specs.Asked.{AreAsked, AreRead, IsDefault, IsTold, ReadsMerge, ReadsReports};
-ghost use Rattle.log_session.specs.CommandLine.{AskToBeTold, IsCommandLine, IsReportRule, IsShown};
-ghost use Rattle.log_session.specs.CommandLine.{merge_rule, name_rule, named};
+ghost use Rattle.clap.specs.Words.{app_of, found_of, rows_of, rule_of};
+ghost use Rattle.command_line.specs.Rules.{file_rule};
+ghost use Rattle.command_line.specs.Told.{AskToBeTold, IsTold};
+ghost use Rattle.log_session.specs.Asked.{AreAsked, AreRead, IsDefault, ReadsMerge, ReadsReports};
+ghost use Rattle.log_session.specs.CommandLine.{IsCommandLine, IsReportRule, merge_rule};
 
 use clap::builder::ValueParser;
-use clap::error::ErrorKind;
 use clap::{Arg, ArgMatches, Command, value_parser};
+use command_line::{
+    Refused, choice, file, get_matches, number, number_given, program, with, word_given,
+};
 use std::alloc::{AllocError, Global};
 use std::convert::AsStr;
 
@@ -66,17 +69,6 @@ impl Options<'_> {
     };
 }
 
-/// Why a command line gives no options.
-#[derive(Drop)]
-pub enum Refused {
-    /// Help or the version was asked for; this is its text, for standard output.
-    Told(String),
-    /// The line is refused; this text says why, for standard error.
-    Usage(String),
-    /// A growth was refused.
-    OutOfMemory,
-}
-
 /// Reads a command line, whose first word is the program's name. `Told` comes where the first of the
 /// faults is a use of `--help` or of `--version`, `Usage` for an unknown or repeated option, a missing
 /// value, or one that isn't allowed. Takes memory. This project's choice.
@@ -84,33 +76,16 @@ pub fn options_of<'a, S: AsStr>(alloc: Global, words: &'a [S]) -> Result<Options
     ensures default { length words.entry.now ≤ 1 → IsOkAnd result IsDefault }
     ensures asked { IfOk result (AreAsked (map S.text words.entry.now)) }
     ensures told { IfErr result (λ refused.
-        IsTold refused → AskToBeTold (map S.text words.entry.now)) }
+        IsTold refused → AskToBeTold IsCommandLine (map S.text words.entry.now)) }
 {
     if words.len() <= 1 {
         return Ok(Options::DEFAULT);
     }
-    let command = match command(alloc) {
-        Ok(command) => command,
-        Err(_) => return Err(Refused::OutOfMemory),
+    let Ok(command) = command(alloc) else {
+        return Err(Refused::OutOfMemory);
     };
-    match command.try_get_matches_from(words) {
-        Ok(matches) => Ok(chosen(&matches)),
-        Err(error) => Err(reason_of(alloc, &error)),
-    }
-}
-
-/// Returns what an error of the command line makes of it.
-fn reason_of(alloc: Global, error: &clap::Error) -> Refused
-    ensures { IsTold result → IsShown (kind_of error.now) }
-{
-    let Ok(text) = format!(in alloc; "{error}") else {
-        return Refused::OutOfMemory;
-    };
-    match error.kind() {
-        ErrorKind::OutOfMemory => Refused::OutOfMemory,
-        ErrorKind::DisplayHelp | ErrorKind::DisplayVersion => Refused::Told(text),
-        _ => Refused::Usage(text),
-    }
+    let matches = get_matches(alloc, command, words)?;
+    Ok(chosen(&matches))
 }
 
 /// Collects what was chosen.
@@ -120,7 +95,7 @@ fn chosen<'a>(matches: &ArgMatches<'a>) -> Options<'a>
     Options {
         reports: reports_in(matches),
         merge: merge_in(matches),
-        names: matches.get_str("names"),
+        names: word_given(matches, "names"),
     }
 }
 
@@ -129,14 +104,14 @@ fn chosen<'a>(matches: &ArgMatches<'a>) -> Options<'a>
 fn merge_in(matches: &ArgMatches) -> Option<u64>
     ensures { ReadsMerge (rows_of (found_of matches.now)) result }
 {
-    matches.get_one::<u64>("merge")
+    number_given(matches, "merge")
 }
 
 /// Returns where reports are asked for, at the end where they are not.
 fn reports_in(matches: &ArgMatches) -> Reports
     ensures { ReadsReports (rows_of (found_of matches.now)) result }
 {
-    match matches.get_str("reports") {
+    match word_given(matches, "reports") {
         Some(word) => reports_named(word),
         None => Reports::End,
     }
@@ -154,9 +129,6 @@ fn reports_named(word: &str) -> Reports
         _ => Reports::End,
     }
 }
-
-/// The version, and the toolchain that all is proved with.
-const VERSION: &str = "1.0.0 (proved with rattle-kit-13f logic dac8208d650f15bf)";
 
 /// The first words of the help.
 const ABOUT: &str = "Makes a trace for metarun of the log of a JVM's metaspace (JDK 17).
@@ -185,36 +157,10 @@ Example:
 fn command<'a>(alloc: Global) -> Result<Command<'a>, AllocError>
     ensures { IfOk result (λ command. IsCommandLine (app_of command)) }
 {
-    let command = described(alloc);
+    let command = program(alloc, "metalog", ABOUT, AFTER);
     let command = with(command, report_option(alloc));
     let command = with(command, merge_option(alloc));
     with(command, name_option(alloc))
-}
-
-/// Adds an option, where there was memory so far.
-fn with<'a>(
-    command: Result<Command<'a>, AllocError>,
-    option: Arg<'a>,
-) -> Result<Command<'a>, AllocError>
-    ensures { (app : App) → IfOk command.entry (λ before. app_of before ≡ app)
-        → option.entry.global ≡ false
-        → IfOk result (λ after. app_of after ≡ with_rule app (rule_of option.entry)) }
-{
-    match command {
-        Ok(command) => command.arg(option),
-        Err(error) => Err(error),
-    }
-}
-
-/// Describes the program.
-fn described<'a>(alloc: Global) -> Result<Command<'a>, AllocError>
-    ensures { IfOk result (λ command. app_of command ≡ named (codes "metalog")) }
-{
-    Command::new(alloc, "metalog")
-        .version(VERSION)
-        .about(ABOUT)
-        .after_help(AFTER)
-        .bin_name("metalog")
 }
 
 /// Describes `--reports`.
@@ -223,11 +169,13 @@ fn report_option<'a>(alloc: Global) -> Arg<'a>
     ensures own { result.global ≡ false }
 {
     let choices = ["end", "gc", "none"].as_slice();
-    Arg::new(alloc, "reports")
-        .long("reports")
-        .value_name("R")
-        .value_parser(choices)
-        .help("Ask for a report at the end, after each collection too, or nowhere [default: end]")
+    choice(
+        alloc,
+        "reports",
+        "R",
+        choices,
+        "Ask for a report at the end, after each collection too, or nowhere [default: end]",
+    )
 }
 
 /// Describes `--merge`.
@@ -236,27 +184,24 @@ fn merge_option<'a>(alloc: Global) -> Arg<'a>
     ensures own { result.global ≡ false }
 {
     let words: ValueParser<'a> = value_parser!(u64).range(2..=1_048_576).into();
-    Arg::new(alloc, "merge")
-        .long("merge")
-        .value_name("N")
-        .num_args(0..=1)
-        .default_missing_value("128")
-        .value_parser(words)
-        .help(
-            "Join blocks of an arena that lie side by side and are never freed, up to N words: \
+    let option = number(
+        alloc,
+        "merge",
+        words,
+        "Join blocks of an arena that lie side by side and are never freed, up to N words: \
 2 to 1048576, 128 where no N is given; the whole trace is kept in memory [default: no]",
-        )
+    );
+    option.num_args(0..=1).default_missing_value("128")
 }
 
 /// Describes `--names`.
 fn name_option<'a>(alloc: Global) -> Arg<'a>
-    ensures rule { rule_of result ≡ name_rule }
+    ensures rule { rule_of result ≡ file_rule (codes "names") }
     ensures own { result.global ≡ false }
 {
-    Arg::new(alloc, "names")
-        .long("names")
-        .value_name("FILE")
-        .help(
-            "Write for each 'new' line the loader's number, and what the log tells of it, to FILE",
-        )
+    file(
+        alloc,
+        "names",
+        "Write for each 'new' line the loader's number, and what the log tells of it, to FILE",
+    )
 }

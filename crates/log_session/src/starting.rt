@@ -1,12 +1,14 @@
 //! The program as a call: the command line is judged, then the log is read.
 ghost use Rattle.std.specs.Prelude.{◌≡◌, ◌≤◌, ◌⊎◌, IfSome, map};
-ghost use Rattle.log_session.specs.CommandLine.{AskToBeTold};
+ghost use Rattle.command_line.specs.Told.{AskToBeTold};
+ghost use Rattle.log_session.specs.CommandLine.{IsCommandLine};
 ghost use Rattle.log_session.specs.Release.{LogIsOfJdk17};
 ghost use Rattle.log_session.specs.Trace.{ConvertsAsked};
 
 use crate::converting::session;
 use crate::failure::Failure;
-use crate::options::{Refused, options_of};
+use crate::options::options_of;
+use command_line::Refused;
 use std::alloc::Global;
 use std::convert::AsStr;
 use std::io::{BufRead, Write};
@@ -31,7 +33,7 @@ pub fn start<T: Files, S: AsStr, R: BufRead, W: Write, E: Write>(
     ensures statuses { result ≤ 5 }
     ensures release { result ≡ 0 → (R.remaining input.new ≡ R.remaining input.old)
         ⊎ IfSome (R.remaining input.old) LogIsOfJdk17 }
-    ensures trace { result ≡ 0 → AskToBeTold (map S.text words.now)
+    ensures trace { result ≡ 0 → AskToBeTold IsCommandLine (map S.text words.now)
         ⊎ ConvertsAsked (map S.text words.now) (R.remaining input.old) (W.contents output.old) (W.contents output.new) }
 {
     match options_of(alloc, words) {

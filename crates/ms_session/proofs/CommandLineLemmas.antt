@@ -4,17 +4,17 @@ use Rattle.std.proofs.Common.{◌≡◌, ◌≤◌, ◌⊎◌, ℕ, List, [], �
 use Rattle.std.proofs.Common.{codes, length, subst, Result, Ok, Err}
 use Rattle.std.specs.Prelude.{IfErr, IfOk, map, option_map}
 use Rattle.std.specs.Borrow.{Bor}
-use Rattle.clap.specs.Words.{App, Row, Rule, Text, IsAmong, fault_of, first_of, is_simple, is_simple_and_free, matches_of}
+use Rattle.clap.specs.Words.{App, Row, Rule, Text, first_of, is_simple, is_simple_and_free, matches_of}
 use Rattle.clap.specs.Words.{one_of}
-use Rattle.clap.specs.declared.error.kind.ErrorKind.{ErrorKind}
-use Rattle.clap.specs.declared.error.kind.ErrorKind.TheVariants.{DisplayHelp, DisplayVersion, OutOfMemory}
 use Rattle.ms_session.proofs.OptionLemmas.{verbosity_unasked, form_unasked, number_unasked, policy_unasked}
 use Rattle.clap.proofs.OnLiterals.{clap_on_literals}
 use Rattle.ms_session.specs.declared.asked.Options.{Options}
-use Rattle.ms_session.specs.declared.options.Refused.{Refused}
-use Rattle.ms_session.specs.declared.options.Refused.TheVariants as refused
-use Rattle.ms_session.specs.Asked.{AreAsked, AreRead, IsAllowed, IsDefault, IsTold, Says, SaysWhy}
-use Rattle.ms_session.specs.CommandLine.{AskToBeTold, Choices, IsCommandLine, IsShown, choice_rule, line_with}
+use Rattle.command_line.specs.Rules.{Choices, choice_rule}
+use Rattle.command_line.specs.Told.{AskToBeTold, IsTold}
+use Rattle.command_line.specs.declared.matching.Refused.{Refused}
+use Rattle.command_line.specs.declared.matching.Refused.TheVariants as refused
+use Rattle.ms_session.specs.Asked.{AreAsked, AreRead, IsAllowed, IsDefault, Says, SaysWhy}
+use Rattle.ms_session.specs.CommandLine.{IsCommandLine, line_with}
 
 -- The command line with the words of its choices.
 abbrev line_of : Choices → Choices → Choices → App
@@ -47,16 +47,6 @@ pub is_judged : (app : App) → IsCommandLine app → is_simple_and_free app ≡
 is_judged app line =
     ap is_simple_and_free (is_line app line)
     ∙ line_is_free line.policy_is.choices line.report_is.choices line.format_is.choices
-
--- A kind that is for standard output is no want of memory, so it is the first fault.
-pub first_is_shown : (words : List Text) (app : App) (kind : ErrorKind) → IsCommandLine app → IsShown kind
-    → (kind ≡ OutOfMemory) ⊎ IsAmong kind (fault_of app words) → AskToBeTold words
-first_is_shown words app kind line (inl help) (inl memory) =
-    let both : DisplayHelp ≡ OutOfMemory = sym help ∙ memory in absurd (cc)
-first_is_shown words app kind line (inr version) (inl memory) =
-    let both : DisplayVersion ≡ OutOfMemory = sym version ∙ memory in absurd (cc)
-first_is_shown words app kind line shown (inr first) =
-    record { app = app; line = line; kind = kind; shown = shown; first = first }
 
 -- What is found without an option: that addresses are not asked for.
 found_nowhere : {X : Type 0} (policies reports forms : Choices) (text : X → Text) (words : List X) → length words ≤ 1
@@ -120,14 +110,14 @@ default_is_asked text words options few default allowed =
 
 -- Where a line for standard error is told, no help is.
 says_no_help : (words : List Text) (line : List ℕ) (refused : Refused) → Says line refused → IsTold refused
-    → AskToBeTold words
-says_no_help words line (refused.Help text) says told = absurd says
+    → AskToBeTold IsCommandLine words
+says_no_help words line (refused.Told text) says told = absurd says
 says_no_help words line (refused.Usage text) says told = absurd told
 says_no_help words line refused.OutOfMemory says told = absurd told
 
 -- So where several workers are asked for what one alone tells, or names that nothing shows.
 pub alone_is_no_help : (words : List Text) (chosen : Result Options Refused) → IfErr chosen SaysWhy
-    → IfErr chosen (λ refused. IsTold refused → AskToBeTold words)
+    → IfErr chosen (λ refused. IsTold refused → AskToBeTold IsCommandLine words)
 alone_is_no_help words (Ok options) says = tt
 alone_is_no_help words (Err refused) (inl says) =
     says_no_help words (codes "metarun: --addresses needs --workers 1\n") refused says

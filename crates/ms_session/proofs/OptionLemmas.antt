@@ -1,10 +1,8 @@
--- What a number option reads of its text, what a policy is by its word, and what a session with
--- default options answers. Used by `number_given` and `policy_in` of `options` and by `start`.
-use Rattle.std.proofs.Common.{◌≡◌, ◌<◌, ◌^◌, ℕ, List, Option, Some, None, Result, Ok, Err, ap, sym, ◌∙◌}
+-- What an option is where it was not given, and what a policy, a verbosity and a form are by their
+-- words. Used by `policy_in`, `verbosity_in`, `form_in` and `options_of` of `options`.
+use Rattle.std.proofs.Common.{◌≡◌, ℕ, List, Some, None, sym, ◌∙◌}
 use Rattle.std.specs.Prelude.{codes}
-use Rattle.std.specs.Str.Parse.{IsNumeral, ParsesUnsigned, without_leading_plus}
 use Rattle.std.proofs.lemmas.Option.{none-some, same_Some}
-use Rattle.clap.specs.Matches.{ReadsOne}
 use Rattle.clap.specs.Words.{Row, Text, first_of, one_of}
 use Rattle.ms_base.specs.declared.policy.Policy.{Policy}
 use Rattle.ms_base.specs.declared.policy.Policy.TheVariants.{Balanced, Aggressive, None as NonePolicy}
@@ -12,17 +10,7 @@ use Rattle.ms_answers.specs.declared.verbosity.Verbosity.{Verbosity}
 use Rattle.ms_answers.specs.declared.verbosity.Verbosity.TheVariants.{Basic, Full}
 use Rattle.ms_session.specs.declared.asked.Form.{Form}
 use Rattle.ms_session.specs.declared.asked.Form.TheVariants.{Text as TextForm, Html, Json}
-use Rattle.ms_session.specs.Asked.{ReadsVerbosity, ReadsForm, ReadsNumber, ReadsPolicy, number_of}
-
--- A numeral, after a plus or without one, is read as the number that it writes.
-pub numeral_is_read : (E : Type 0) (gives : List ℕ → Result ℕ E → Type 0) (text : List ℕ) (read : Option ℕ)
-    → IsNumeral 10 (without_leading_plus text) → number_of text < 2 ^ 64
-    → ((parsed : Result ℕ E) → gives text parsed → ParsesUnsigned 64 10 text parsed)
-    → ReadsOne gives text read → read ≡ Some (number_of text)
-numeral_is_read E gives text (Some value) digits small parses reads =
-    ap (λ (n : ℕ). Some n) (parses (Ok value) reads).1
-numeral_is_read E gives text None digits small parses reads =
-    absurd (parses (Err reads.0) reads.1 (digits, small))
+use Rattle.ms_session.specs.Asked.{ReadsVerbosity, ReadsForm, ReadsNumber, ReadsPolicy}
 
 -- A number and a policy that were not given.
 pub number_unasked : (rows : List Row) (id : Text) (least most default number : ℕ) → one_of id rows ≡ None

@@ -1,18 +1,18 @@
 -- What a command line may ask for (this project's choice).
 use Rattle.std.specs.Prelude.{◌≡◌, ◌≢◌, ◌≤◌, ◌⊎◌, ℕ, Bool, List, true, false, Some, None, codes, ⊤}
 use Rattle.std.specs.Prelude.{option_map, string_bytes}
-use Rattle.std.specs.Str.Parse.{digits_value, without_leading_plus}
 use Rattle.clap.specs.Words.{App, IsUnsignedIn, Row, Text, first_of, matches_of, one_of}
 use Rattle.ms_base.specs.declared.policy.Policy.{Policy}
 use Rattle.ms_base.specs.declared.policy.Policy.TheVariants as policy
 use Rattle.ms_answers.specs.declared.verbosity.Verbosity.{Verbosity}
 use Rattle.ms_answers.specs.declared.verbosity.Verbosity.TheVariants.{Basic, Full}
+use Rattle.command_line.specs.Given.{number_of}
+use Rattle.command_line.specs.declared.matching.Refused.{Refused}
+use Rattle.command_line.specs.declared.matching.Refused.TheVariants.{Told, OutOfMemory, Usage}
 use Rattle.ms_session.specs.CommandLine.{IsCommandLine}
 use Rattle.ms_session.specs.declared.asked.Form.{Form}
 use Rattle.ms_session.specs.declared.asked.Form.TheVariants as form
 use Rattle.ms_session.specs.declared.asked.Options.{Options}
-use Rattle.ms_session.specs.declared.options.Refused.{Refused}
-use Rattle.ms_session.specs.declared.options.Refused.TheVariants.{Help, OutOfMemory, Usage}
 
 -- Names are shown on a page, in a document, and after a text with full reports.
 abbrev pub ShowsNames : Form → Verbosity → Type 0
@@ -47,10 +47,6 @@ pub record IsDefault (options : Options) : Type 0 where
   pub text : options.form ≡ form.Text
   pub max_lines : options.max_lines ≡ 100000
   pub names : options.names ≡ None
-
--- The number that a text writes in digits, after a plus or without one.
-abbrev pub number_of : Text → ℕ
-number_of text = digits_value 10 (without_leading_plus text)
 
 -- A number is the one that is written in an option's value, which `clap` accepts where it lies in
 -- the range, and the default where none was given.
@@ -104,11 +100,6 @@ pub record AreAsked (words : List Text) (options : Options) : Type 0 where
   pub read : AreRead (matches_of app words) options
   pub allowed : IsAllowed options
 
--- What `metarun` has for standard output in place of a run.
-abbrev pub IsTold : Refused → Type 0
-IsTold (Help text) = ⊤
-IsTold _ = ⊥
-
 -- The rows have addresses or a form, which only one worker may be asked for, or names, which basic
 -- reports don't show.
 abbrev pub AskMore : List Row → Type 0
@@ -118,7 +109,7 @@ AskMore rows =
 
 -- It has this line for standard error, memory aside.
 abbrev pub Says : List ℕ → Refused → Type 0
-Says line (Help text) = ⊥
+Says line (Told text) = ⊥
 Says line (Usage text) = string_bytes text ≡ line
 Says line OutOfMemory = ⊤
 

@@ -24,5 +24,6 @@ mod watching;
 
 pub use answering::session;
 pub use asked::{Form, Options};
-pub use options::{Refused, options_of};
+pub use command_line::Refused;
+pub use options::options_of;
 pub use starting::start;

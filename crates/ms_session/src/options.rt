@@ -5,41 +5,28 @@
 //! Kept true: what is accepted lies within the ranges that `Settings` has, and what is not asked
 //! for is the default. `clap` reads the words and writes the texts of refusals and of the help.
 //! Only `options_of` takes memory.
-ghost use Rattle.std.specs.Prelude.{◌≡◌, ◌≢◌, ◌≤◌, ◌<◌, ◌^◌, ℕ, IfOk, IfErr, IsOkAnd, None, Some};
-ghost use Rattle.std.specs.Prelude.{codes};
-ghost use Rattle.std.specs.Str.Parse.{IsNumeral, without_leading_plus};
-ghost use Rattle.std.specs.Prelude.{length, map, option_map, false, IsTrue, ◌↔◌};
-ghost use Rattle.clap.specs.Words.{App, Text, app_of, first_of, found_of, kind_of, new_rule, one_of, rows_of};
-ghost use Rattle.clap.specs.Words.{rule_of, with_rule};
-ghost use Rattle.ms_session.specs.Asked.{IsAllowed, IsDefault, IsTold, AreRead, AreAsked, AskMore};
+ghost use Rattle.std.specs.Prelude.{◌≡◌, ◌≢◌, ◌≤◌, IfOk, IfErr, IsOkAnd, codes, length, map, false, IsTrue, ◌↔◌};
+ghost use Rattle.clap.specs.Words.{app_of, found_of, rows_of, rule_of};
+ghost use Rattle.command_line.specs.Rules.{file_rule, number_rule};
+ghost use Rattle.command_line.specs.Told.{AskToBeTold, IsTold};
+ghost use Rattle.ms_session.specs.Asked.{IsAllowed, IsDefault, AreRead, AreAsked, AskMore};
 ghost use Rattle.ms_session.specs.Asked.{ReadsVerbosity, ReadsFlag, ReadsForm, ReadsNumber, ReadsPolicy};
-ghost use Rattle.ms_session.specs.Asked.{Says, SaysWhy, ShowsNames, number_of};
-ghost use Rattle.ms_session.specs.CommandLine.{IsCommandLine, IsShown, AskToBeTold, IsPolicyRule};
-ghost use Rattle.ms_session.specs.CommandLine.{IsFormatRule, IsReportRule};
-ghost use Rattle.ms_session.specs.CommandLine.{number_rule, addresses_rule, names_rule, named};
+ghost use Rattle.ms_session.specs.Asked.{Says, SaysWhy, ShowsNames};
+ghost use Rattle.ms_session.specs.CommandLine.{IsCommandLine, IsPolicyRule, IsFormatRule, IsReportRule};
+ghost use Rattle.ms_session.specs.CommandLine.{addresses_rule};
 
 use crate::asked::{Form, Options};
-use clap::builder::ValueParser;
-use clap::error::ErrorKind;
 use clap::{Arg, ArgAction, ArgMatches, Command, value_parser};
+use command_line::{
+    Refused, choice, file, get_matches, number, number_given, program, with, word_given,
+};
 use ms_answers::Verbosity;
 use ms_base::{Policy, Settings};
 use std::alloc::{AllocError, Global};
 use std::convert::AsStr;
 
-/// Why there are no options.
-#[derive(Drop)]
-pub enum Refused {
-    /// Help or the version was asked for; this is its text, for standard output.
-    Help(String),
-    /// The line is refused; this text says why, for standard error.
-    Usage(String),
-    /// A growth was refused.
-    OutOfMemory,
-}
-
 /// Reads a command line, whose first word is the program's name. Granules count 8192 words each,
-/// 2048 under policy aggressive; nodes count 1048576 words each. `Help` comes where the first of
+/// 2048 under policy aggressive; nodes count 1048576 words each. `Told` comes where the first of
 /// the faults is a use of `--help` or of `--version`, `Usage` for an unknown or repeated option, a
 /// missing value, or one out of its range, and where more than one worker is asked for blocks'
 /// addresses, since a schedule decides them, or for a form other than text, which shows the states
@@ -51,33 +38,16 @@ pub fn options_of<'a, S: AsStr>(alloc: Global, words: &'a [S]) -> Result<Options
     ensures default { length words.entry.now ≤ 1 → IsOkAnd result IsDefault }
     ensures asked { IfOk result (AreAsked (map S.text words.entry.now)) }
     ensures told { IfErr result (λ refused.
-        IsTold refused → AskToBeTold (map S.text words.entry.now)) }
+        IsTold refused → AskToBeTold IsCommandLine (map S.text words.entry.now)) }
 {
     if words.len() <= 1 {
         return Ok(Options::DEFAULT);
     }
-    let command = match command(alloc) {
-        Ok(command) => command,
-        Err(_) => return Err(Refused::OutOfMemory),
+    let Ok(command) = command(alloc) else {
+        return Err(Refused::OutOfMemory);
     };
-    match command.try_get_matches_from(words) {
-        Ok(matches) => chosen(alloc, &matches),
-        Err(error) => Err(reason_of(alloc, &error)),
-    }
-}
-
-/// Returns what comes of a command line with this error.
-fn reason_of(alloc: Global, error: &clap::Error) -> Refused
-    ensures { IsTold result → IsShown (kind_of error.now) }
-{
-    let Ok(text) = format!(in alloc; "{error}") else {
-        return Refused::OutOfMemory;
-    };
-    match error.kind() {
-        ErrorKind::OutOfMemory => Refused::OutOfMemory,
-        ErrorKind::DisplayHelp | ErrorKind::DisplayVersion => Refused::Help(text),
-        _ => Refused::Usage(text),
-    }
+    let matches = get_matches(alloc, command, words)?;
+    chosen(alloc, &matches)
 }
 
 /// The line on standard error where addresses are asked for of several workers.
@@ -116,7 +86,7 @@ fn chosen<'a>(alloc: Global, matches: &ArgMatches<'a>) -> Result<Options<'a>, Re
     if is_other(form) && workers > 1 {
         return Err(refused_with(alloc, FORM_ALONE));
     }
-    let names = names_in(matches);
+    let names = word_given(matches, "names");
     let verbosity = verbosity_in(matches);
     if names.is_some() && !shows_names(form, verbosity) {
         return Err(refused_with(alloc, NAMES_SHOWN));
@@ -152,16 +122,6 @@ fn number_in(matches: &ArgMatches, id: &str, least: u64, most: u64, default: u64
     }
 }
 
-/// Reads the number that was given, where there is one: its digits, after a plus or without one.
-fn number_given(matches: &ArgMatches, id: &str) -> Option<u64>
-    ensures absent { one_of id.now (rows_of (found_of matches.now)) ≡ None → result ≡ None }
-    ensures given { (text : Text) → one_of id.now (rows_of (found_of matches.now)) ≡ Some text
-        → IsNumeral 10 (without_leading_plus text) → number_of text < 2 ^ 64
-        → result ≡ Some (number_of text) }
-{
-    matches.get_one::<u64>(id)
-}
-
 /// Returns whether a flag was given.
 fn flag_in(matches: &ArgMatches, id: &str) -> bool
     ensures { ReadsFlag (rows_of (found_of matches.now)) id.now result }
@@ -173,7 +133,7 @@ fn flag_in(matches: &ArgMatches, id: &str) -> bool
 fn policy_in(matches: &ArgMatches) -> Policy
     ensures { ReadsPolicy (rows_of (found_of matches.now)) result }
 {
-    match matches.get_str("policy") {
+    match word_given(matches, "policy") {
         Some(word) => policy_named(word),
         None => Policy::Balanced,
     }
@@ -196,7 +156,7 @@ fn policy_named(word: &str) -> Policy
 fn verbosity_in(matches: &ArgMatches) -> Verbosity
     ensures { ReadsVerbosity (rows_of (found_of matches.now)) result }
 {
-    match matches.get_str("report") {
+    match word_given(matches, "report") {
         Some(word) => verbosity_named(word),
         None => Verbosity::Basic,
     }
@@ -217,7 +177,7 @@ fn verbosity_named(word: &str) -> Verbosity
 fn form_in(matches: &ArgMatches) -> Form
     ensures { ReadsForm (rows_of (found_of matches.now)) result }
 {
-    match matches.get_str("format") {
+    match word_given(matches, "format") {
         Some(word) => form_named(word),
         None => Form::Text,
     }
@@ -246,14 +206,6 @@ fn is_other(form: Form) -> bool
     }
 }
 
-/// Returns the file of names that was given, where there is one.
-fn names_in<'a>(matches: &ArgMatches<'a>) -> Option<&'a str>
-    ensures { option_map (λ path. path.now) result
-        ≡ first_of (codes "names") (rows_of (found_of matches.now)) }
-{
-    matches.get_str("names")
-}
-
 /// Returns whether names are shown: on a page, in a document, and after a text with full reports.
 fn shows_names(form: Form, verbosity: Verbosity) -> bool
     ensures { IsTrue result ↔ ShowsNames form verbosity }
@@ -263,9 +215,6 @@ fn shows_names(form: Form, verbosity: Verbosity) -> bool
         (Form::Html | Form::Json, _) | (Form::Text, Verbosity::Full) => true,
     }
 }
-
-/// The version, and the toolchain that all is proved with.
-const VERSION: &str = "1.0.0 (proved with rattle-kit-13f logic dac8208d650f15bf)";
 
 /// The first words of the help.
 const ABOUT: &str = "Runs a trace of class loader operations over an elastic metaspace.
@@ -292,7 +241,7 @@ Example:
 fn command<'a>(alloc: Global) -> Result<Command<'a>, AllocError>
     ensures { IfOk result (λ command. IsCommandLine (app_of command)) }
 {
-    let command = described(alloc);
+    let command = program(alloc, "metarun", ABOUT, AFTER);
     let command = with(command, workers(alloc));
     let command = with(command, granules(alloc));
     let command = with(command, nodes(alloc));
@@ -305,54 +254,12 @@ fn command<'a>(alloc: Global) -> Result<Command<'a>, AllocError>
     with(command, names(alloc))
 }
 
-/// Adds an option, where there was memory so far.
-fn with<'a>(
-    command: Result<Command<'a>, AllocError>,
-    option: Arg<'a>,
-) -> Result<Command<'a>, AllocError>
-    ensures { (app : App) → IfOk command.entry (λ before. app_of before ≡ app)
-        → option.entry.global ≡ false
-        → IfOk result (λ after. app_of after ≡ with_rule app (rule_of option.entry)) }
-{
-    match command {
-        Ok(command) => command.arg(option),
-        Err(error) => Err(error),
-    }
-}
-
-/// Describes the program.
-fn described<'a>(alloc: Global) -> Result<Command<'a>, AllocError>
-    ensures { IfOk result (λ command. app_of command ≡ named (codes "metarun")) }
-{
-    Command::new(alloc, "metarun")
-        .version(VERSION)
-        .about(ABOUT)
-        .after_help(AFTER)
-        .bin_name("metarun")
-}
-
-/// Describes an option with a number, of so many.
-fn numbered<'a>(alloc: Global, name: &'a str, numbers: ValueParser<'a>, help: &'a str) -> Arg<'a>
-    ensures rule { rule_of result ≡ record (new_rule name.entry.now) {
-      long = Some name.entry.now;
-      value_names = 1;
-      parser = Some numbers.entry;
-    } }
-    ensures own { result.global ≡ false }
-{
-    Arg::new(alloc, name)
-        .long(name)
-        .value_name("N")
-        .value_parser(numbers)
-        .help(help)
-}
-
 /// Describes `--workers`.
 fn workers<'a>(alloc: Global) -> Arg<'a>
     ensures rule { rule_of result ≡ number_rule (codes "workers") 1 8 }
     ensures own { result.global ≡ false }
 {
-    numbered(
+    number(
         alloc,
         "workers",
         value_parser!(u64).range(1..=8),
@@ -365,7 +272,7 @@ fn granules<'a>(alloc: Global) -> Arg<'a>
     ensures rule { rule_of result ≡ number_rule (codes "max-granules") 1 40960 }
     ensures own { result.global ≡ false }
 {
-    numbered(
+    number(
         alloc,
         "max-granules",
         value_parser!(u64).range(1..=40960),
@@ -378,7 +285,7 @@ fn nodes<'a>(alloc: Global) -> Arg<'a>
     ensures rule { rule_of result ≡ number_rule (codes "nodes") 1 64 }
     ensures own { result.global ≡ false }
 {
-    numbered(
+    number(
         alloc,
         "nodes",
         value_parser!(u64).range(1..=64),
@@ -403,11 +310,13 @@ fn policy<'a>(alloc: Global) -> Arg<'a>
     ensures own { result.global ≡ false }
 {
     let policies = ["balanced", "aggressive", "none"].as_slice();
-    Arg::new(alloc, "policy")
-        .long("policy")
-        .value_name("P")
-        .value_parser(policies)
-        .help("What becomes of freed memory [default: balanced]")
+    choice(
+        alloc,
+        "policy",
+        "P",
+        policies,
+        "What becomes of freed memory [default: balanced]",
+    )
 }
 
 /// Describes `--class-nodes`.
@@ -415,7 +324,7 @@ fn class_nodes<'a>(alloc: Global) -> Arg<'a>
     ensures rule { rule_of result ≡ number_rule (codes "class-nodes") 0 16 }
     ensures own { result.global ≡ false }
 {
-    numbered(
+    number(
         alloc,
         "class-nodes",
         value_parser!(u64).range(0..=16),
@@ -429,11 +338,13 @@ fn report<'a>(alloc: Global) -> Arg<'a>
     ensures own { result.global ≡ false }
 {
     let reports = ["basic", "full"].as_slice();
-    Arg::new(alloc, "report")
-        .long("report")
-        .value_name("R")
-        .value_parser(reports)
-        .help("How much a report tells [default: basic]")
+    choice(
+        alloc,
+        "report",
+        "R",
+        reports,
+        "How much a report tells [default: basic]",
+    )
 }
 
 /// Describes `--max-lines`.
@@ -441,7 +352,7 @@ fn max_lines<'a>(alloc: Global) -> Arg<'a>
     ensures rule { rule_of result ≡ number_rule (codes "max-lines") 1 10000000 }
     ensures own { result.global ≡ false }
 {
-    numbered(
+    number(
         alloc,
         "max-lines",
         value_parser!(u64).range(1..=10_000_000),
@@ -455,24 +366,23 @@ fn format<'a>(alloc: Global) -> Arg<'a>
     ensures own { result.global ≡ false }
 {
     let forms = ["text", "html", "json"].as_slice();
-    Arg::new(alloc, "format")
-        .long("format")
-        .value_name("F")
-        .value_parser(forms)
-        .help(
-            "Write text, one HTML page, or one JSON document; the latter two need --workers 1 [default: text]",
-        )
+    choice(
+        alloc,
+        "format",
+        "F",
+        forms,
+        "Write text, one HTML page, or one JSON document; the latter two need --workers 1 [default: text]",
+    )
 }
 
 /// Describes `--names`.
 fn names<'a>(alloc: Global) -> Arg<'a>
-    ensures rule { rule_of result ≡ names_rule }
+    ensures rule { rule_of result ≡ file_rule (codes "names") }
     ensures own { result.global ≡ false }
 {
-    Arg::new(alloc, "names")
-        .long("names")
-        .value_name("FILE")
-        .help(
-            "Show in pages, documents and full reports what FILE says of each 'new' line: loader, space, text",
-        )
+    file(
+        alloc,
+        "names",
+        "Show in pages, documents and full reports what FILE says of each 'new' line: loader, space, text",
+    )
 }

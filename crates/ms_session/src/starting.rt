@@ -1,8 +1,9 @@
 //! The program as a call: the command line is judged, then the trace is read, run and answered.
 ghost use Rattle.std.specs.Prelude.{◌≡◌, ◌≢◌, ◌≤◌, ◌⊎◌, IfSome, length, map};
 ghost use Rattle.std.specs.Io.KnownBytes.{Keeps};
-ghost use Rattle.ms_session.specs.Asked.{IsDefault, IsTold};
-ghost use Rattle.ms_session.specs.CommandLine.{AskToBeTold};
+ghost use Rattle.ms_session.specs.Asked.{IsDefault};
+ghost use Rattle.command_line.specs.Told.{AskToBeTold, IsTold};
+ghost use Rattle.ms_session.specs.CommandLine.{IsCommandLine};
 ghost use Rattle.ms_session.specs.declared.asked.Options.{Options};
 ghost use Rattle.ms_session.specs.Session.{IsAnswered};
 ghost use Rattle.ms_session.specs.Start.{IsFaulty, IsObeyed, IsStopped};
@@ -10,7 +11,8 @@ ghost use Rattle.ms_session.specs.Start.{IsFaulty, IsObeyed, IsStopped};
 use crate::answering::session;
 use crate::devices::write_text;
 use crate::failure::Failure;
-use crate::options::{Refused, options_of};
+use crate::options::options_of;
+use command_line::Refused;
 use std::alloc::Global;
 use std::convert::AsStr;
 use std::io::{Read, Write};
@@ -39,12 +41,12 @@ pub fn start<T: Threads + Wait + Files + Sync, S: AsStr, R: Read, W: Write, E: W
         × IsAnswered options (R.remaining input.old) (R.remaining input.new)
         (W.contents output.old) (W.contents output.new) }
     ensures obeyed { result ≡ 0
-        → (AskToBeTold (map S.text words.now) × (R.remaining input.new ≡ R.remaining input.old))
+        → (AskToBeTold IsCommandLine (map S.text words.now) × (R.remaining input.new ≡ R.remaining input.old))
         ⊎ IsObeyed (map S.text words.now) (R.remaining input.old) (R.remaining input.new)
         (W.contents output.old) (W.contents output.new) }
     ensures faulty { result ≡ 1 → IfSome (R.remaining input.old) (IsFaulty (map S.text words.now)) }
     ensures failed { result ≡ 5
-        → (AskToBeTold (map S.text words.now) × (R.remaining input.new ≡ R.remaining input.old))
+        → (AskToBeTold IsCommandLine (map S.text words.now) × (R.remaining input.new ≡ R.remaining input.old))
         ⊎ IsStopped (map S.text words.now) (R.remaining input.old) (R.remaining input.new)
         (W.contents output.old) (W.contents output.new) }
     ensures unread { result ≡ 2 → R.remaining input.new ≡ R.remaining input.old }
@@ -70,7 +72,7 @@ fn tell<W: Write, E: Write>(refused: Refused, output: &mut W, errors: &mut E) ->
     ensures statuses { result ≤ 5 }
 {
     match refused {
-        Refused::Help(text) => match write_text(output, text.as_bytes()) {
+        Refused::Told(text) => match write_text(output, text.as_bytes()) {
             Ok(()) => 0,
             Err(_) => Failure::Output.tell(errors),
         },

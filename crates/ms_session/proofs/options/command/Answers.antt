@@ -1,12 +1,12 @@
 use Rattle.std.proofs.Common.{◌∙◌, ap, ap₂, codes}
 use Rattle.std.proofs.lemmas.Result.{IfOk-weaker}
 use Rattle.clap.specs.Words.{App, rule_of, with_rule}
-use Rattle.ms_session.specs.CommandLine.{named}
+use Rattle.command_line.specs.Rules.{named}
 use Rattle.ms_session.proofs.options.command.Goals as goal
 
 pub returns : goal.returns
 returns c =
-    let with_workers = c.with-command.ensures _ c.described-command.ensures c.workers.ensures.own in
+    let with_workers = c.with-command.ensures _ c.program-command.ensures c.workers.ensures.own in
     let with_granules = c.with-command-2.ensures _ with_workers c.granules.ensures.own in
     let with_nodes = c.with-command-3.ensures _ with_granules c.nodes.ensures.own in
     let with_addresses = c.with-command-4.ensures _ with_nodes c.addresses.ensures.own in

@@ -2,8 +2,8 @@ use Rattle.std.proofs.Common.{◌∙◌}
 use Rattle.std.specs.Str.Parse.{ParsesUnsigned, ExplainsUnsignedError, HasUnsignedDigitsIfOk}
 use Rattle.clap.specs.Words.{found_of}
 use Rattle.clap.proofs.WalkLemmas.{one_text-rows}
-use Rattle.ms_session.proofs.OptionLemmas.{numeral_is_read}
-use Rattle.ms_session.proofs.options.number_given.Goals as goal
+use Rattle.command_line.proofs.NumeralLemmas.{numeral_is_read}
+use Rattle.command_line.proofs.matching.number_given.Goals as goal
 
 pub returns-clause-absent : goal.returns-clause-absent
 returns-clause-absent c = λ none.

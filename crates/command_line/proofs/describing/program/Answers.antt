@@ -2,7 +2,7 @@ use Rattle.std.proofs.Common.{◌∙◌, ap, true}
 use Rattle.std.proofs.lemmas.Result.{IfOk-weaker}
 use Rattle.clap.specs.Simple.{app_of_fields}
 use Rattle.clap.specs.Words.{App}
-use Rattle.ms_session.proofs.options.described.Goals as goal
+use Rattle.command_line.proofs.describing.program.Goals as goal
 
 pub returns : goal.returns
 returns c = IfOk-weaker c.bin_name.result _ _ (λ command is.

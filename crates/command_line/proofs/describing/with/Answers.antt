@@ -1,7 +1,7 @@
 use Rattle.std.proofs.Common.{◌≡◌, ◌∙◌, ap}
 use Rattle.std.proofs.lemmas.Result.{IfOk-at_ok, IfOk-weaker}
 use Rattle.clap.specs.Words.{App, app_of, rule_of, with_rule}
-use Rattle.ms_session.proofs.options.with.Goals as goal
+use Rattle.command_line.proofs.describing.with.Goals as goal
 
 pub returns-in-Ok : goal.returns-in-Ok
 returns-in-Ok c = λ app before own. IfOk-weaker c.arg.result _ _ (λ after adds. adds.shape own

@@ -1,0 +1,2 @@
+pub mod NumeralLemmas
+pub mod ToldLemmas

@@ -1,0 +1,3 @@
+pub mod Rules
+pub mod Given
+pub mod Told
