@@ -1,7 +1,7 @@
 //! By subject, lowest first: sizes and refusals of the `base`, `nodes` and their granules, split
 //! `trees`, `free_blocks`, the `pool` and `arenas` over it, `loaders` and systems, `worked` rows of
-//! a system, `reports` and `traces` as texts, the pool behind a lock (`locked_pool`), the
-//! `used_meter`, `runs` by several workers, their `meeting`, and `courses` of runs with their
+//! a system, `reports` and `traces` as texts, the pool behind a lock (`locked_pool`) and the `members`
+//! that share it, the `used_meter`, `runs` by several workers, their `meeting`, and `courses` of runs with their
 //! documents. Each says what no clause does.
 mod arenas;
 mod base;
@@ -10,6 +10,7 @@ mod free_blocks;
 mod loaders;
 mod locked_pool;
 mod meeting;
+mod members;
 mod nodes;
 mod observed;
 mod pool;

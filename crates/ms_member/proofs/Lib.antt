@@ -4,5 +4,6 @@ pub mod BareLemmas
 pub mod BitLemmas
 pub mod HostedLemmas
 pub mod SeatedLemmas
+pub mod SendLemmas
 pub mod ServedLemmas
 pub mod TakingLemmas

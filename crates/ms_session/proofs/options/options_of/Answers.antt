@@ -18,12 +18,12 @@ returns-in_err-matches-clause-told g c =
       ask = c.in_err-matches.ensures.told (is_judged (app_of c.in-Ok.command) c.in-Ok.ensures) told;
     })
 
-pub returns-in_ok-matches-clause-asked : goal.returns-in_ok-matches-clause-asked
-returns-in_ok-matches-clause-asked g c =
+pub returns-clause-asked : goal.returns-clause-asked
+returns-clause-asked g c =
     chosen_is_asked (app_of c.in-Ok.command) _ (rows_of (found_of c.in_ok-matches.matches)) c.chosen.result
     c.in-Ok.ensures
     (c.in_ok-matches.ensures.found (is_matched (app_of c.in-Ok.command) c.in-Ok.ensures))
     c.chosen.ensures.allowed c.chosen.ensures.read
 
-pub returns-in_ok-matches-clause-told : goal.returns-in_ok-matches-clause-told
-returns-in_ok-matches-clause-told g c = alone_is_no_help _ c.chosen.result c.chosen.ensures.refused
+pub returns-clause-told : goal.returns-clause-told
+returns-clause-told g c = alone_is_no_help _ c.chosen.result c.chosen.ensures.refused
