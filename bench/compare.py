@@ -1,9 +1,10 @@
-"""Holds metarun against its twin: python3 bench/compare.py [NAME..], once ./metarun is built.
+"""Holds metarun against its twin, once ./metarun is built.
 
 For each shape of traces.py, or those named: whether both print the same bytes, and as a row of a table the millions of
 instructions that each takes over the whole trace (valgrind's callgrind), the one for each of the other's, and the most
 memory that is resident (MB of 10^6 bytes). It needs cargo, valgrind and /usr/bin/time.
 """
+import argparse
 import os
 import re
 import subprocess
@@ -58,4 +59,6 @@ def main(names):
 
 
 if __name__ == "__main__":
-    main(sys.argv[1:])
+    parser = argparse.ArgumentParser(description=__doc__, formatter_class=argparse.RawDescriptionHelpFormatter)
+    parser.add_argument("names", metavar="NAME", nargs="*", help="a shape of traces.py")
+    main(parser.parse_args().names)

@@ -1,5 +1,5 @@
 #!/usr/bin/env python3
-"""Measures what an allocation costs, and a free, beside HotSpot's own on the machine's JVM: bench/costs.py [BLOCKS WORDS ROUNDS]
+"""Measures what an allocation costs, and a free, beside HotSpot's own on the machine's JVM.
 
 Prints nanoseconds by way, the least of so many rounds, each of one loader's so many blocks of so many words; programs run by
 turns. The library's ways, `malloc` and a bump pointer are in costs.c, over the library that was built, else the released one.
@@ -9,10 +9,10 @@ interface takes. `arena` is MetaspaceArena's allocation and deallocation under a
 allocation in a class loader's metaspace, with its lock, its count against the limit and its zeroing, which touches the words for
 the first time. It needs cc, rt and a JDK 17.
 """
+import argparse
 import os
 import re
 import subprocess
-import sys
 import tempfile
 
 HERE = os.path.dirname(os.path.abspath(__file__))
@@ -120,8 +120,7 @@ def hotspot(words):
     return [float(cost) for cost in re.search(r"^costs (.*)$", printed(words), re.MULTILINE)[1].split()]
 
 
-def main(given):
-    sizes = given or ["20000", "10", "20"]
+def main(sizes):
     with tempfile.TemporaryDirectory(prefix="bench-costs-") as room:
         ours, theirs = program(room), [*java(room), *sizes]
         runs = {way: [] for way in WAYS}
@@ -143,4 +142,8 @@ def main(given):
 
 
 if __name__ == "__main__":
-    main(sys.argv[1:])
+    parser = argparse.ArgumentParser(description=__doc__, formatter_class=argparse.RawDescriptionHelpFormatter)
+    for name, default in ("blocks", 20000), ("words", 10), ("rounds", 20):
+        parser.add_argument(name, metavar=name.upper(), type=int, nargs="?", default=default, help=f"{default} if not said")
+    asked = parser.parse_args()
+    main([str(size) for size in (asked.blocks, asked.words, asked.rounds)])

@@ -1,12 +1,12 @@
-"""Tells what each part of a gate costs: python3 bench/gate_times.py FILE, started beside `rt ci`, until no check has run for a minute.
+"""Tells what each part of a gate costs, started beside `rt ci`, until no check has run for a minute.
 
 It looks at the machine's processes five times a second and adds up the processor seconds of each check that was begun in this repository,
 by its command line: a crate's proof, the seed of its edits, its tests, an edit, a build of a program. FILE gets a line for each: seconds of
 processor, seconds by the clock, crate, part. What a process took after the last look at it is not counted.
 """
+import argparse
 import os
 import re
-import sys
 import time
 
 HERE = os.path.dirname(os.path.abspath(__file__))
@@ -87,4 +87,6 @@ def main(file):
 
 
 if __name__ == "__main__":
-    main(sys.argv[1])
+    parser = argparse.ArgumentParser(description=__doc__, formatter_class=argparse.RawDescriptionHelpFormatter)
+    parser.add_argument("file", metavar="FILE", help="where the lines go")
+    main(parser.parse_args().file)

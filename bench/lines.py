@@ -1,11 +1,14 @@
 #!/usr/bin/env python3
-"""Prints a table of lines by crate: run at the top, `python3 bench/lines.py`."""
+"""Prints a table of lines by crate."""
+import argparse
 import pathlib
+
+TOP = pathlib.Path(__file__).resolve().parent.parent
 
 
 def crates():
     """The crates in the order of crates.txt, lowest first."""
-    for line in pathlib.Path("crates.txt").read_text().splitlines():
+    for line in (TOP / "crates.txt").read_text().splitlines():
         if line.strip() and not line.startswith("#"):
             yield line.split(":")[0].split()[0]
 
@@ -15,7 +18,7 @@ def lines(files):
 
 
 def row(name):
-    crate = pathlib.Path("crates", name)
+    crate = TOP / "crates" / name
     source = sorted(crate.glob("src/**/*.rt"))
     if not source:
         raise SystemExit(f"{crate}/src has no source")
@@ -29,6 +32,7 @@ def row(name):
     )
 
 
+argparse.ArgumentParser(description=__doc__).parse_args()
 print("| Crate | Code | Tests | Specs | Proofs | Edits |\n|---|---|---|---|---|---|")
 rows = {name: row(name) for name in crates()}
 rows["all"] = tuple(sum(column) for column in zip(*rows.values()))

@@ -6,12 +6,15 @@ Its words are how many free parts of level 12 the pool has, each beside a lent o
 chunk of level 10 and closes the account again, and the policy. It stands on the crates as they are, and is proved with them: the
 account that holds the lent parts and the one that gave its parts back are the pool's own. The numbers are in README.md.
 """
+import argparse
 import pathlib
 import shutil
 import sys
 
 here = pathlib.Path(__file__).resolve().parent.parent
-out = pathlib.Path(sys.argv[1])
+parser = argparse.ArgumentParser(description=__doc__, formatter_class=argparse.RawDescriptionHelpFormatter)
+parser.add_argument('folder', metavar='FOLDER', type=pathlib.Path, help='where the program is made')
+out = parser.parse_args().folder
 names = ['ms_base', 'ms_commit', 'ms_buddy', 'ms_pool']
 for name in names:
     for part in ['src', 'specs', 'proofs']:

@@ -1,14 +1,14 @@
-"""Where a crate's proof time goes: python3 bench/proof_times.py FOLDER [SECONDS].
+"""Tells where a crate's proof time goes.
 
 FOLDER is what `rt check --jobs 1` has left in crates/NAME/out/incremental, from nothing. With one job a module's file is
 written when it is done, so the gap before it is the time that the module took. Prints the seconds of each part of a
 function (`Lts`, `Proof`, ..) over all functions, then of each function, with those of its three dearest parts, and the
 modules that took at least so many (2 if not said).
 """
+import argparse
 import collections
 import os
 import re
-import sys
 
 # What follows a function's name in the name of a module: its parts, which begin with a capital letter.
 PARTS = re.compile(r"(\.[A-Z]\w*)*$")
@@ -47,4 +47,8 @@ def main(folder, least):
 
 
 if __name__ == "__main__":
-    main(sys.argv[1], float(sys.argv[2]) if len(sys.argv) > 2 else 2.0)
+    parser = argparse.ArgumentParser(description=__doc__, formatter_class=argparse.RawDescriptionHelpFormatter)
+    parser.add_argument("folder", metavar="FOLDER")
+    parser.add_argument("seconds", metavar="SECONDS", type=float, nargs="?", default=2.0)
+    asked = parser.parse_args()
+    main(asked.folder, asked.seconds)

@@ -1,4 +1,4 @@
-"""Writes the traces that the program is measured with: python3 bench/traces.py FOLDER [NAME..]
+"""Writes the traces that the program is measured with into a folder.
 
 Without a name it writes all of them. Each has at most 100,000 lines, and depends on its name alone.
 
@@ -18,9 +18,9 @@ Without a name it writes all of them. Each has at most 100,000 lines, and depend
   reports        1,000 standard loaders, 40,000 blocks among them, 500 unloaded, and 200 reports
   purges         100,000 purges of nothing
 """
+import argparse
 import pathlib
 import random
-import sys
 
 
 def words_of(chance):
@@ -225,16 +225,21 @@ TRACES = [mixed, words, one_size, short_lived, exchange, one_loader, many_loader
 
 
 def main():
-    if len(sys.argv) < 2:
-        sys.exit(__doc__)
-    folder = pathlib.Path(sys.argv[1])
-    folder.mkdir(parents=True, exist_ok=True)
+    parser = argparse.ArgumentParser(description=__doc__, formatter_class=argparse.RawDescriptionHelpFormatter)
+    parser.add_argument('folder', metavar='FOLDER', type=pathlib.Path)
+    parser.add_argument('names', metavar='NAME', nargs='*', help='a trace to write')
+    asked = parser.parse_args()
+    there = [trace.__name__ for trace in TRACES]
+    for name in asked.names:
+        if name not in there:
+            parser.error(f'no trace is called {name}')
+    asked.folder.mkdir(parents=True, exist_ok=True)
     for trace in TRACES:
-        if sys.argv[2:] and trace.__name__ not in sys.argv[2:]:
+        if asked.names and trace.__name__ not in asked.names:
             continue
         lines = list(trace(random.Random(trace.__name__)))
         assert len(lines) <= 100000, trace.__name__
-        (folder / f'{trace.__name__}.trace').write_text('\n'.join(lines) + '\n')
+        (asked.folder / f'{trace.__name__}.trace').write_text('\n'.join(lines) + '\n')
         print(f'{trace.__name__}: {len(lines)} lines')
 
 

@@ -1,13 +1,15 @@
-"""Prints a trace of 64 standard loaders that ask for blocks in phases: python3 bench/workers.py LINES PHASES WORDS
+"""Prints a trace of 64 standard loaders that ask for blocks in phases.
 
 LINES is about how many lines it has, at most 100,000; a `sync` ends each phase; WORDS is above those of the largest block.
 """
+import argparse
 import random
-import sys
 
-if len(sys.argv) != 4:
-    sys.exit(__doc__)
-most_lines, phases, most_words = map(int, sys.argv[1:])
+parser = argparse.ArgumentParser(description=__doc__, formatter_class=argparse.RawDescriptionHelpFormatter)
+for name in 'lines', 'phases', 'words':
+    parser.add_argument(name, metavar=name.upper(), type=int)
+asked = parser.parse_args()
+most_lines, phases, most_words = asked.lines, asked.phases, asked.words
 random.seed(64)
 loaders = range(64)
 lines = [f'new {loader} standard' for loader in loaders]

@@ -1,10 +1,11 @@
-"""Runs the system tests over a built program: python3 tests/run.py PROGRAM [WORD..]
+"""Runs the system tests over a built program.
 
 Each test says its name and time as it ends, and the last line is 'N passed, M failed'; where a tool is missing that
 isn't asked of each machine, also ', K skipped', and the tests that need it. The line before it has the sum of the growths
 that tests refused in turn, as they say it. With words, those tests alone whose names have one of them. As many tests run
 side by side as there are processors.
 """
+import argparse
 import concurrent.futures
 import importlib
 import multiprocessing
@@ -75,13 +76,11 @@ def run_all(program, words, room):
     return names, growths
 
 
-def main(words):
-    if not words:
-        sys.exit(__doc__)
-    program = os.path.abspath(words[0])
+def main(program, words):
+    program = os.path.abspath(program)
     with tempfile.TemporaryDirectory(prefix="metarun-tests-") as room:
         build(room)
-        names, growths = run_all(program, words[1:], room)
+        names, growths = run_all(program, words, room)
     if growths:
         print(f"{growths} growths were refused in turn, by all of these tests together")
     skipped = f", {len(names[SKIPPED])} skipped: {'; '.join(names[SKIPPED])}" if names[SKIPPED] else ""
@@ -90,4 +89,8 @@ def main(words):
 
 
 if __name__ == "__main__":
-    main(sys.argv[1:])
+    parser = argparse.ArgumentParser(description=__doc__, formatter_class=argparse.RawDescriptionHelpFormatter)
+    parser.add_argument("program", metavar="PROGRAM")
+    parser.add_argument("words", metavar="WORD", nargs="*", help="a part of a test's name")
+    asked = parser.parse_args()
+    main(asked.program, asked.words)
