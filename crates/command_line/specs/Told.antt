@@ -1,10 +1,10 @@
--- When a program shows its help or its version.
-use Rattle.std.specs.Prelude.{◌≡◌, ◌⊎◌, List, ⊤}
-use Rattle.clap.specs.Words.{App, Text, IsAmong, fault_of}
+-- When a program shows its help or its version, and when it refuses its command line.
+use Rattle.std.specs.Prelude.{◌≡◌, ◌≢◌, ◌⊎◌, List, true, ⊤}
+use Rattle.clap.specs.Words.{App, Text, IsAmong, fault_of, takes}
 use Rattle.clap.specs.declared.error.kind.ErrorKind.{ErrorKind}
 use Rattle.clap.specs.declared.error.kind.ErrorKind.TheVariants.{DisplayHelp, DisplayVersion}
 use Rattle.command_line.specs.declared.matching.Refused.{Refused}
-use Rattle.command_line.specs.declared.matching.Refused.TheVariants.{Told}
+use Rattle.command_line.specs.declared.matching.Refused.TheVariants.{Told, Usage}
 
 -- What a program has for standard output in place of its work.
 abbrev pub IsTold : Refused → Type 0
@@ -26,3 +26,14 @@ pub record AskToBeTold (IsLine : App → Type 0) (words : List Text) : Type 0 wh
   pub app : App
   pub line : IsLine app
   pub ask : AskForIt app words
+
+-- What a program has for standard error in place of its work, memory aside.
+abbrev pub IsUsage : Refused → Type 0
+IsUsage (Usage text) = ⊤
+IsUsage _ = ⊥
+
+-- A command line of which this is known doesn't take the words.
+pub record AreNotTaken (IsLine : App → Type 0) (words : List Text) : Type 0 where
+  pub app : App
+  pub line : IsLine app
+  pub refused : takes app words ≢ true

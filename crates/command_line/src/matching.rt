@@ -1,10 +1,11 @@
 //! What the words of a command line give: the value of each option, or why there are none.
-ghost use Rattle.std.specs.Prelude.{◌≡◌, ◌<◌, ◌^◌, IfErr, IfOk, None, Some, map, option_map, true};
+ghost use Rattle.std.specs.Prelude.{◌≡◌, ◌≢◌, ◌<◌, ◌^◌, IfErr, IfOk, None, Some, map, option_map, true};
 ghost use Rattle.std.specs.Str.Parse.{IsNumeral, without_leading_plus};
 ghost use Rattle.clap.specs.Words.{Text, app_of, first_of, found_of, is_simple, is_simple_and_free, kind_of};
-ghost use Rattle.clap.specs.Words.{matches_of, one_of, rows_of};
+ghost use Rattle.clap.specs.Words.{matches_of, one_of, rows_of, takes};
 ghost use Rattle.command_line.specs.Given.{number_of};
-ghost use Rattle.command_line.specs.Told.{AskForIt, IsShown, IsTold};
+ghost use Rattle.command_line.specs.Told.{AskForIt, IsShown, IsTold, IsUsage};
+ghost use Rattle.clap.specs.declared.error.kind.ErrorKind.TheVariants.{OutOfMemory};
 
 use clap::error::ErrorKind;
 use clap::{ArgMatches, Command};
@@ -34,6 +35,8 @@ pub fn get_matches<'a, S: AsStr>(
         rows_of (found_of matches) ≡ matches_of (app_of command.entry) (map S.text words.entry.now)) }
     ensures told { is_simple_and_free (app_of command.entry) ≡ true → IfErr result (λ refused.
         IsTold refused → AskForIt (app_of command.entry) (map S.text words.entry.now)) }
+    ensures usage { IfErr result (λ refused. IsUsage refused
+        → takes (app_of command.entry) (map S.text words.entry.now) ≢ true) }
 {
     match command.try_get_matches_from(words) {
         Ok(matches) => Ok(matches),
@@ -43,7 +46,8 @@ pub fn get_matches<'a, S: AsStr>(
 
 /// Returns what comes of a command line with this error.
 fn reason_of(alloc: Global, error: &clap::Error) -> Refused
-    ensures { IsTold result → IsShown (kind_of error.now) }
+    ensures told { IsTold result → IsShown (kind_of error.now) }
+    ensures usage { IsUsage result → kind_of error.now ≢ OutOfMemory }
 {
     let Ok(text) = format!(in alloc; "{error}") else {
         return Refused::OutOfMemory;

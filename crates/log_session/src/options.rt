@@ -7,7 +7,7 @@
 ghost use Rattle.std.specs.Prelude.{◌≡◌, ◌≤◌, ◌∷◌, [], IfErr, IfOk, IsFalse, IsOkAnd, IsTrue, None, codes, false, length, map};
 ghost use Rattle.clap.specs.Words.{app_of, found_of, rows_of, rule_of};
 ghost use Rattle.command_line.specs.Rules.{file_rule};
-ghost use Rattle.command_line.specs.Told.{AskToBeTold, IsTold};
+ghost use Rattle.command_line.specs.Told.{AreNotTaken, AskToBeTold, IsTold, IsUsage};
 ghost use Rattle.log_session.specs.Asked.{AreAsked, AreRead, IsDefault, ReadsMerge, ReadsReports};
 ghost use Rattle.log_session.specs.CommandLine.{IsCommandLine, IsReportRule, merge_rule};
 
@@ -77,6 +77,8 @@ pub fn options_of<'a, S: AsStr>(alloc: Global, words: &'a [S]) -> Result<Options
     ensures asked { IfOk result (AreAsked (map S.text words.entry.now)) }
     ensures told { IfErr result (λ refused.
         IsTold refused → AskToBeTold IsCommandLine (map S.text words.entry.now)) }
+    ensures usage { IfErr result (λ refused.
+        IsUsage refused → AreNotTaken IsCommandLine (map S.text words.entry.now)) }
 {
     if words.len() <= 1 {
         return Ok(Options::DEFAULT);

@@ -1,6 +1,6 @@
 //! The program as a call: the command line is judged, then the log is read.
 ghost use Rattle.std.specs.Prelude.{◌≡◌, ◌≤◌, ◌⊎◌, IfSome, map};
-ghost use Rattle.command_line.specs.Told.{AskToBeTold};
+ghost use Rattle.command_line.specs.Told.{AreNotTaken, AskToBeTold};
 ghost use Rattle.log_session.specs.CommandLine.{IsCommandLine};
 ghost use Rattle.log_session.specs.Release.{LogIsOfJdk17};
 ghost use Rattle.log_session.specs.Trace.{ConvertsAsked};
@@ -30,6 +30,7 @@ pub fn start<T: Files, S: AsStr, R: BufRead, W: Write, E: Write>(
     errors: &mut E,
 ) -> u8
     ensures unread { result ≡ 2 → R.remaining input.new ≡ R.remaining input.old }
+    ensures usage { result ≡ 2 → AreNotTaken IsCommandLine (map S.text words.now) }
     ensures statuses { result ≤ 5 }
     ensures release { result ≡ 0 → (R.remaining input.new ≡ R.remaining input.old)
         ⊎ IfSome (R.remaining input.old) LogIsOfJdk17 }

@@ -10,10 +10,10 @@ use Rattle.ms_session.proofs.OptionLemmas.{verbosity_unasked, form_unasked, numb
 use Rattle.clap.proofs.OnLiterals.{clap_on_literals}
 use Rattle.ms_session.specs.declared.asked.Options.{Options}
 use Rattle.command_line.specs.Rules.{Choices, choice_rule}
-use Rattle.command_line.specs.Told.{AskToBeTold, IsTold}
+use Rattle.command_line.specs.Told.{AreNotTaken, AskToBeTold, IsTold, IsUsage}
 use Rattle.command_line.specs.declared.matching.Refused.{Refused}
 use Rattle.command_line.specs.declared.matching.Refused.TheVariants as refused
-use Rattle.ms_session.specs.Asked.{AreAsked, AreRead, IsAllowed, IsDefault, Says, SaysWhy}
+use Rattle.ms_session.specs.Asked.{AreAsked, AreRead, AskMore, AskTooMuch, IsAllowed, IsDefault, Says, SaysWhy}
 use Rattle.ms_session.specs.CommandLine.{IsCommandLine, line_with}
 
 -- The command line with the words of its choices.
@@ -137,3 +137,11 @@ chosen_is_asked app words rows (Ok options) line same allowed read = record {
   allowed = allowed;
 }
 chosen_is_asked app words rows (Err refused) line same allowed read = tt
+
+-- What is refused of the matches asks more than one worker, or basic reports, can show.
+pub chosen_asks_too_much : (app : App) (words : List Text) (rows : List Row) (chosen : Result Options Refused)
+    → IsCommandLine app → rows ≡ matches_of app words → IfErr chosen (λ refused. AskMore rows)
+    → IfErr chosen (λ refused. IsUsage refused → AreNotTaken IsCommandLine words ⊎ AskTooMuch words)
+chosen_asks_too_much app words rows (Ok options) line same more = tt
+chosen_asks_too_much app words rows (Err refused) line same more =
+    λ usage. inr (record { app = app; line = line; more = subst AskMore same more })

@@ -107,6 +107,12 @@ AskMore rows =
     (one_of (codes "addresses") rows ≢ None)
     ⊎ ((first_of (codes "format") rows ≢ None) ⊎ (first_of (codes "names") rows ≢ None))
 
+-- So the words of a command line do, which it takes.
+pub record AskTooMuch (words : List Text) : Type 0 where
+  pub app : App
+  pub line : IsCommandLine app
+  pub more : AskMore (matches_of app words)
+
 -- It has this line for standard error, memory aside.
 abbrev pub Says : List ℕ → Refused → Type 0
 Says line (Told text) = ⊥

@@ -5,13 +5,13 @@
 //! Kept true: what is accepted lies within the ranges that `Settings` has, and what is not asked
 //! for is the default. `clap` reads the words and writes the texts of refusals and of the help.
 //! Only `options_of` takes memory.
-ghost use Rattle.std.specs.Prelude.{◌≡◌, ◌≢◌, ◌≤◌, IfOk, IfErr, IsOkAnd, codes, length, map, false, IsTrue, ◌↔◌};
+ghost use Rattle.std.specs.Prelude.{◌≡◌, ◌≢◌, ◌⊎◌, ◌≤◌, IfOk, IfErr, IsOkAnd, codes, length, map, false, IsTrue, ◌↔◌};
 ghost use Rattle.clap.specs.Words.{app_of, found_of, rows_of, rule_of};
 ghost use Rattle.command_line.specs.Rules.{file_rule, number_rule};
-ghost use Rattle.command_line.specs.Told.{AskToBeTold, IsTold};
+ghost use Rattle.command_line.specs.Told.{AreNotTaken, AskToBeTold, IsTold, IsUsage};
 ghost use Rattle.ms_session.specs.Asked.{IsAllowed, IsDefault, AreRead, AreAsked, AskMore};
 ghost use Rattle.ms_session.specs.Asked.{ReadsVerbosity, ReadsFlag, ReadsForm, ReadsNumber, ReadsPolicy};
-ghost use Rattle.ms_session.specs.Asked.{Says, SaysWhy, ShowsNames};
+ghost use Rattle.ms_session.specs.Asked.{AskTooMuch, Says, SaysWhy, ShowsNames};
 ghost use Rattle.ms_session.specs.CommandLine.{IsCommandLine, IsPolicyRule, IsFormatRule, IsReportRule};
 ghost use Rattle.ms_session.specs.CommandLine.{addresses_rule};
 
@@ -39,6 +39,8 @@ pub fn options_of<'a, S: AsStr>(alloc: Global, words: &'a [S]) -> Result<Options
     ensures asked { IfOk result (AreAsked (map S.text words.entry.now)) }
     ensures told { IfErr result (λ refused.
         IsTold refused → AskToBeTold IsCommandLine (map S.text words.entry.now)) }
+    ensures usage { IfErr result (λ refused. IsUsage refused
+        → AreNotTaken IsCommandLine (map S.text words.entry.now) ⊎ AskTooMuch (map S.text words.entry.now)) }
 {
     if words.len() <= 1 {
         return Ok(Options::DEFAULT);

@@ -1,8 +1,8 @@
 //! The program as a call: the command line is judged, then the trace is read, run and answered.
 ghost use Rattle.std.specs.Prelude.{◌≡◌, ◌≢◌, ◌≤◌, ◌⊎◌, IfSome, length, map};
 ghost use Rattle.std.specs.Io.KnownBytes.{Keeps};
-ghost use Rattle.ms_session.specs.Asked.{IsDefault};
-ghost use Rattle.command_line.specs.Told.{AskToBeTold, IsTold};
+ghost use Rattle.ms_session.specs.Asked.{AskTooMuch, IsDefault};
+ghost use Rattle.command_line.specs.Told.{AreNotTaken, AskToBeTold, IsTold, IsUsage};
 ghost use Rattle.ms_session.specs.CommandLine.{IsCommandLine};
 ghost use Rattle.ms_session.specs.declared.asked.Options.{Options};
 ghost use Rattle.ms_session.specs.Session.{IsAnswered};
@@ -49,11 +49,12 @@ pub fn start<T: Threads + Wait + Files + Sync, S: AsStr, R: Read, W: Write, E: W
         → (AskToBeTold IsCommandLine (map S.text words.now) × (R.remaining input.new ≡ R.remaining input.old))
         ⊎ IsStopped (map S.text words.now) (R.remaining input.old) (R.remaining input.new)
         (W.contents output.old) (W.contents output.new) }
+    ensures usage { result ≡ 2
+        → AreNotTaken IsCommandLine (map S.text words.now) ⊎ AskTooMuch (map S.text words.now) }
     ensures unread { result ≡ 2 → R.remaining input.new ≡ R.remaining input.old }
     ensures untouched { (result ≡ 1) ⊎ (result ≡ 2) ⊎ (result ≡ 3)
         → Keeps (W.contents output.old) (W.contents output.new) }
-    ensures statuses { result ≤ 5 }
-    ensures settled { result ≢ 4 }
+    ensures statuses { (result ≤ 3) ⊎ (result ≡ 5) }
 {
     match options_of(alloc, words) {
         Ok(options) => session(rt, alloc, &options, input, output, errors),
@@ -65,11 +66,11 @@ pub fn start<T: Threads + Wait + Files + Sync, S: AsStr, R: Read, W: Write, E: W
 /// exit status.
 fn tell<W: Write, E: Write>(refused: Refused, output: &mut W, errors: &mut E) -> u8
     ensures told { (result ≡ 0) ⊎ (result ≡ 5) → IsTold refused }
+    ensures usage { result ≡ 2 → IsUsage refused }
     ensures no_fault { result ≢ 1 }
-    ensures settled { result ≢ 4 }
     ensures untouched { (result ≡ 2) ⊎ (result ≡ 3)
         → Keeps (W.contents output.old) (W.contents output.new) }
-    ensures statuses { result ≤ 5 }
+    ensures statuses { (result ≤ 3) ⊎ (result ≡ 5) }
 {
     match refused {
         Refused::Told(text) => match write_text(output, text.as_bytes()) {

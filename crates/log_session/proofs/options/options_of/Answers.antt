@@ -16,3 +16,12 @@ returns-in_err-matches-clause-told g c =
       line = c.in-Ok.ensures;
       ask = c.in_err-matches.ensures.told (is_judged (app_of c.in-Ok.command) c.in-Ok.ensures) told;
     })
+
+pub returns-in_err-matches-clause-usage : goal.returns-in_err-matches-clause-usage
+returns-in_err-matches-clause-usage g c =
+    let back = err_from_is_err_and c.from_residual.result c.from_residual.ensures.1 in
+    rw (back.1, back.2) (λ usage. record {
+      app = app_of c.in-Ok.command;
+      line = c.in-Ok.ensures;
+      refused = c.in_err-matches.ensures.usage usage;
+    })
