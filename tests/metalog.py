@@ -280,7 +280,8 @@ def loaders_have_names(bench):
 
 def command_lines(bench):
     """What is refused before anything is read, and the texts of the help and of the version."""
-    for words in (["--reports"], ["--reports", "all"], ["--merge", "1"], ["--merge", "x"], ["--names"], ["x"], ["--what"]):
+    for words in (["--reports"], ["--reports", "all"], ["--merge", "1"], ["--merge", "x"], ["--names"], ["x"], ["--what"],
+                  [b"\xff"]):
         ended = converted("".join(SMALL), *words)
         expect(ended.status == 2 and ended.output == b"" and ended.errors, words, ended)
     for word, part in (("--help", b"Exit status:"), ("--version", b"metalog 1.")):
